@@ -1,0 +1,1 @@
+// The Gregorian calendar of the years 2000 to 2100.
