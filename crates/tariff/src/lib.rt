@@ -1,2 +1,3 @@
 // Tariff lines: the terms of plans, and what leads from one plan to another.
+pub mod line;
 pub mod terms;
