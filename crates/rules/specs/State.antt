@@ -8,7 +8,7 @@ use Rattle.quantities.specs.Units.{of}
 use Rattle.quantities.specs.declared.unit.UnitKind.{UnitKind}
 use Rattle.quantities.specs.declared.unit.PerUnit.{PerUnit}
 use Rattle.quantities.specs.declared.time.Day.{Day}
-use Rattle.calendar.specs.declared.due.Anchor.{Anchor}
+use Rattle.calendar.specs.declared.anchor.Anchor.{Anchor}
 use Rattle.tariff.specs.Terms.{Terms, Entry, Lawful, amount}
 use Rattle.book.specs.Allowance.{Allowance, left}
 use Rattle.rules.specs.declared.call.Status.{Status}
