@@ -1,11 +1,11 @@
 -- The month and the date of a day, and the day on which the next fee falls due, for all days that will ever be.
 use mathlib.Core.Path.{_≡_}
-use mathlib.Core.Bool.{Bool, true, cond, _&&_}
-use Prim.Native.Nat.{ℕ, zero, suc, _+_, _-_, _*_, _/_, _≤_, _<_, min}
+use mathlib.Core.Bool.{Bool, cond, _&&_}
+use Prim.Native.Nat.{ℕ, zero, suc, _+_, _-_, _/_, _≤_, _<_, min}
 use lib.Dec.{leb, ltb}
 use Rattle.calendar.specs.declared.date.Date.{Date}
 use Rattle.calendar.specs.Gregorian.{days-in, year-of, month-of-year, month-length, first}
-use Rattle.calendar.specs.Dates.{number, exists, last-day, Date-of-day}
+use Rattle.calendar.specs.Dates.{number}
 
 -- the month of the day that is `left` days after the first day of month k, at most n months on
 abbrev pub month-from : ℕ → ℕ → ℕ → ℕ
@@ -31,6 +31,14 @@ due-date k a = record { year = year-of k; month = month-of-year k; day = min a (
 -- The due day after a fee on day d with anchor a lies in the month after d's month.
 unfoldable pub due-after : ℕ → ℕ → ℕ
 due-after d a = number (due-date (month-of d + 1) a)
+
+-- A due day is told for every fee that the calendar leaves a next month, up to 30 November 2100,
+abbrev pub last-fee-day : ℕ
+last-fee-day = 36_858
+
+-- and every anchor that is the day of some month.
+abbrev pub has-due-day : ℕ → ℕ → Bool
+has-due-day d a = leb d last-fee-day && (leb 1 a && leb a 31)
 
 -- ## What holds of all days and anchors
 
