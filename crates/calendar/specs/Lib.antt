@@ -1,0 +1,3 @@
+pub mod Gregorian
+pub mod Dates
+pub mod Due

@@ -1,1 +1,3 @@
+pub mod LawfulTogether
 pub mod Terms
+pub mod Together

@@ -1,0 +1,63 @@
+-- The month and the date of a day, and the day on which the next fee falls due, for all days that will ever be.
+use mathlib.Core.Path.{_≡_}
+use mathlib.Core.Bool.{Bool, true, cond, _&&_}
+use Prim.Native.Nat.{ℕ, zero, suc, _+_, _-_, _*_, _/_, _≤_, _<_, min}
+use lib.Dec.{leb, ltb}
+use Rattle.calendar.specs.declared.date.Date.{Date}
+use Rattle.calendar.specs.Gregorian.{days-in, year-of, month-of-year, month-length, first}
+use Rattle.calendar.specs.Dates.{number, exists, last-day, Date-of-day}
+
+-- the month of the day that is `left` days after the first day of month k, at most n months on
+abbrev pub month-from : ℕ → ℕ → ℕ → ℕ
+month-from zero k left = k
+month-from (suc n) k left = cond (ltb left (month-length k)) k (month-from n (k + 1) (left - month-length k))
+
+-- The month in which day d lies, counted from January 2000, which is month 0. A month has at least 28 days.
+unfoldable pub month-of : ℕ → ℕ
+month-of d = month-from (d / 28 + 1) 0 d
+
+-- The day of the month on which day d lies.
+unfoldable pub month-day : ℕ → ℕ
+month-day d = d - first (month-of d) + 1
+
+-- The date of day d.
+abbrev pub date-of : ℕ → Date
+date-of d = record { year = year-of (month-of d); month = month-of-year (month-of d); day = month-day d }
+
+-- The day of month k on which a fee with anchor a falls due is the smaller of a and the month's length.
+abbrev pub due-date : ℕ → ℕ → Date
+due-date k a = record { year = year-of k; month = month-of-year k; day = min a (days-in (year-of k) (month-of-year k)) }
+
+-- The due day after a fee on day d with anchor a lies in the month after d's month.
+unfoldable pub due-after : ℕ → ℕ → ℕ
+due-after d a = number (due-date (month-of d + 1) a)
+
+-- ## What holds of all days and anchors
+
+-- A due day is later than the fee before it,
+abbrev pub Due-later : Type 0
+Due-later = (d a : ℕ) → d < due-after d a
+
+-- at most 61 days later, as from the first to the last day of two months of 31 days,
+abbrev pub Due-within : Type 0
+Due-within = (d a : ℕ) → due-after d a ≤ d + 61
+
+-- and in the next month.
+abbrev pub Due-next-month : Type 0
+Due-next-month = (d a : ℕ) → month-of (due-after d a) ≡ month-of d + 1
+
+-- A later day lies in no earlier month.
+abbrev pub Month-of-monotone : Type 0
+Month-of-monotone = (d e : ℕ) → d ≤ e → month-of d ≤ month-of e
+
+-- A day before the first day of month k lies in a month before k.
+abbrev pub Month-of-before : Type 0
+Month-of-before = (d k : ℕ) → d < first k → month-of d < k
+
+-- A day of the month is 1
+abbrev pub Month-day-least : Type 0
+Month-day-least = (d : ℕ) → 1 ≤ month-day d
+
+-- to 31.
+abbrev pub Month-day-most : Type 0
+Month-day-most = (d : ℕ) → month-day d ≤ 31
