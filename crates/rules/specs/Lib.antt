@@ -5,3 +5,4 @@ pub mod Calls
 pub mod Checks
 pub mod Runs
 pub mod Laws
+pub mod Gregorian

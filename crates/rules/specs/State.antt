@@ -23,6 +23,8 @@ pub record Calendar : Type 0 where
   pub due-later : (d a : ℕ) → d < due-after d a
   pub due-next-month : (d a : ℕ) → month-of (due-after d a) ≡ month-of d + 1
   pub month-of-monotone : (d e : ℕ) → d ≤ e → month-of d ≤ month-of e
+  pub month-day-least : (d : ℕ) → 1 ≤ month-day d
+  pub month-day-most : (d : ℕ) → month-day d ≤ 31
 
 -- The calendar, a tariff line's two tables and the capacity of the books.
 pub record World : Type 0 where
