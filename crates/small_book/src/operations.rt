@@ -59,7 +59,7 @@ pub impl Book for Small as SmallBook {
     }
 
     fn lapse(&mut self, day: Day) -> u32 {
-        if self.end > day {
+        if day < self.end {
             return 0;
         }
         let ended = self.old;
