@@ -54,6 +54,10 @@ Due-within = (d a : ℕ) → due-after d a ≤ d + 61
 abbrev pub Due-next-month : Type 0
 Due-next-month = (d a : ℕ) → month-of (due-after d a) ≡ month-of d + 1
 
+-- Its date is in the next month, on the anchor or on that month's last day, whichever comes first.
+abbrev pub Due-dated : Type 0
+Due-dated = (d a : ℕ) → 1 ≤ a → date-of (due-after d a) ≡ due-date (month-of d + 1) a
+
 -- A later day lies in no earlier month.
 abbrev pub Month-of-monotone : Type 0
 Month-of-monotone = (d e : ℕ) → d ≤ e → month-of d ≤ month-of e
