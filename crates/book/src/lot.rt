@@ -1,4 +1,6 @@
 // Old lots.
+ghost use mathlib.Core.Path.{_≡_};
+ghost use Prim.Native.Nat.{_-_, min};
 use quantities::time::Day;
 use quantities::time::DayDebug;
 use quantities::time::DayPartialEq;
@@ -8,4 +10,26 @@ use quantities::time::DayPartialEq;
 pub struct Lot {
     pub amount: u32,
     pub end: Day,
+}
+
+impl Lot {
+    // Takes the smaller of `n` and all that is left from the lot, and answers it.
+    pub fn lower(&mut self, n: u32) -> u32
+        ensures answer { λ r. ⌜ r ≡ min n (now (self .entry) .amount) ⌝ }
+        ensures left { λ _. ⌜ now (self .exit) ≡ record { amount = now (self .entry) .amount - n; end = now (self .entry) .end } ⌝ }
+    {
+        let taken = n.min(self.amount);
+        self.amount -= taken;
+        taken
+    }
+
+    // The lot with its end lowered to the cap where it is past it.
+    pub fn capped(self, cap: Day) -> Lot
+        ensures value { λ r. ⌜ r ≡ record { amount = self .amount; end = record { 0 = min (cap .0) (self .end .0) } } ⌝ }
+    {
+        Lot {
+            amount: self.amount,
+            end: Day(cap.0.min(self.end.0)),
+        }
+    }
 }
