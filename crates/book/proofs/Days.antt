@@ -10,7 +10,7 @@ use Rattle.std.specs.shelf.Lists.{folded}
 use Rattle.std.proofs.shelf.Ways.{tells}
 use Rattle.std.proofs.shelf.Tests.{cases-order}
 use Rattle.book.specs.declared.lot.Lot.{Lot}
-use Rattle.book.specs.Allowance.{Allowance, units, rising, lasting, as-lot, with-lot, with-capped, aside}
+use Rattle.book.specs.Allowance.{units, rising, lasting, as-lot, with-lot, with-capped, aside}
 use Rattle.book.specs.Days.{ending-on, capped-on}
 use Rattle.book.specs.Laws.{Aside-by-days, Decided-by-days, Aside-before-cap, Aside-past-cap, Aside-no-longer}
 use Rattle.book.proofs.Lots.{parts}

@@ -1,9 +1,11 @@
 // Old lots.
 ghost use mathlib.Core.Path.{_≡_};
 ghost use Prim.Native.Nat.{_-_, min};
+ghost use lib.Dec.{leb};
 use quantities::time::Day;
 use quantities::time::DayDebug;
 use quantities::time::DayPartialEq;
+use quantities::time::DayPartialOrd;
 
 // An old lot: units left of an earlier month, and the day on which they end.
 #[derive(Clone, Copy, PartialEq, Eq, Debug)]
@@ -21,6 +23,13 @@ impl Lot {
         let taken = n.min(self.amount);
         self.amount -= taken;
         taken
+    }
+
+    // Whether the lot ends at or before the day.
+    pub fn ended_by(self, day: Day) -> bool
+        ensures value { λ r. ⌜ r ≡ leb (self .end .0) (day .0) ⌝ }
+    {
+        self.end <= day
     }
 
     // The lot with its end lowered to the cap where it is past it.

@@ -1,21 +1,19 @@
 -- What a copy inside the array leaves, and where one lot more goes.
-use mathlib.Core.Path.{_≡_, refl, sym, ap, _∙_}
-use mathlib.Core.Bool.{Bool, cond, true, false, _&&_}
+use mathlib.Core.Path.{_≡_, sym, ap, _∙_}
 use mathlib.Core.List.{List, [], _∷_, _++_, append-assoc}
 use mathlib.Core.Logic.{inl, inr}
-use Prim.Native.Nat.{ℕ, _+_, _-_, _<_, _≤_, min}
+use Prim.Native.Nat.{ℕ, _+_, _-_, _<_, _≤_}
 use native.Mathlib.Omega.{arith}
-use lib.Dec.{ltb, leb, eqb}
 use lib.ListN.{length, take, drop, getD, set, length-take, length-drop}
 use lib.Seq.{paste, take-set-lt}
-use Rattle.std.specs.shelf.Lists.{folded, inserted}
+use Rattle.std.specs.shelf.Lists.{inserted}
 use Rattle.std.proofs.shelf.Edits.{take-paste}
 use Rattle.std.proofs.shelf.Lists.{drop-take, take-take, take-append-drop, take-set, drop-set, take-more-set, set-append-left, drop-all, take-more, getD-take}
 use Rattle.std.proofs.shelf.Ways.{tells}
 use Rattle.std.proofs.shelf.Tests.{cases-lt}
 use Rattle.book.specs.declared.lot.Lot.{Lot}
 use Rattle.table_book.specs.declared.lots.Lots.{Lots}
-use Rattle.book.specs.Allowance.{units, rising, with-lot, with-capped}
+use Rattle.book.specs.Allowance.{with-lot}
 use Rattle.table_book.specs.Held.{held}
 use Rattle.table_book.proofs.Rows.{at, none, length-held}
 

@@ -5,6 +5,7 @@ ghost use lib.ListN.{drop};
 ghost use Rattle.book.specs.Allowance.{units, as-lot, undrawn, ended, lasting};
 ghost use Rattle.table_book.specs.Held.{held};
 use crate::lots::Lots;
+use crate::lots::MOST_LOTS;
 use book::lot::Lot;
 use quantities::time::Day;
 
@@ -14,7 +15,7 @@ impl Lots {
         ensures lots { λ r. ⌜ held r ≡ as-lot amount (end .0) ⌝ }
     {
         Lots {
-            lots: [Lot { amount, end }; 31],
+            lots: [Lot { amount, end }; MOST_LOTS],
             len: if amount == 0 { 0 } else { 1 },
         }
     }
@@ -69,7 +70,7 @@ impl Lots {
         let mut stay = 0;
         for i in 0..self.len {
             let lot = self.lots[i];
-            if lot.end.0 <= day.0 {
+            if lot.ended_by(day) {
                 sum += lot.amount;
                 continue;
             }

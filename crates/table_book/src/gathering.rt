@@ -7,18 +7,22 @@ ghost use lib.ListN.{length};
 ghost use Rattle.std.specs.shelf.Lists.{folded, inserted};
 ghost use Rattle.book.specs.Allowance.{units, as-lot, with-lot, with-capped, gathered};
 ghost use Rattle.table_book.specs.Held.{held};
+ghost use Rattle.table_book.specs.Room.{most-lots};
 use crate::lots::Lots;
+use crate::lots::MOST_LOTS;
 use book::lot::Lot;
 use quantities::time::Day;
+use quantities::time::DayPartialEq;
+use quantities::time::DayPartialOrd;
 
 impl Lots {
     // Puts `lot` before the lot at `at`, if there is room.
     fn insert(&mut self, at: usize, lot: Lot) -> bool
         requires { ⌜ at ≤ now self .len ⌝ }
-        ensures answer { λ r. ⌜ r ≡ leb (length (inserted (held (now (self .entry))) at lot)) 31 ⌝ }
+        ensures answer { λ r. ⌜ r ≡ leb (length (inserted (held (now (self .entry))) at lot)) most-lots ⌝ }
         ensures lots { λ r. ⌜ held (now (self .exit)) ≡ cond r (inserted (held (now (self .entry))) at lot) (held (now (self .entry))) ⌝ }
     {
-        if self.len == 31 {
+        if self.len == MOST_LOTS {
             return false;
         }
         self.lots.copy_within(at..self.len, at + 1);
@@ -30,15 +34,16 @@ impl Lots {
     // Puts in one lot more, in the order of the ends or joined with one of equal end, if there is room.
     fn add(&mut self, lot: Lot) -> bool
         requires { ⌜ units (held (now self)) + lot .amount < 2 ^ 32 ⌝ }
-        ensures answer { λ r. ⌜ r ≡ leb (length (with-lot lot (held (now (self .entry))))) 31 ⌝ }
+        ensures answer { λ r. ⌜ r ≡ leb (length (with-lot lot (held (now (self .entry))))) most-lots ⌝ }
         ensures lots { λ r. ⌜ held (now (self .exit)) ≡ cond r (with-lot lot (held (now (self .entry)))) (held (now (self .entry))) ⌝ }
     {
         for i in 0..self.len {
-            if self.lots[i].end.0 == lot.end.0 {
+            let end = self.lots[i].end;
+            if end == lot.end {
                 self.lots[i].amount += lot.amount;
                 return true;
             }
-            if self.lots[i].end.0 > lot.end.0 {
+            if end > lot.end {
                 return self.insert(i, lot);
             }
         }
@@ -48,13 +53,10 @@ impl Lots {
     // The same with an amount as a lot, 0 making none, and its end lowered to the cap where it is past it.
     pub(crate) fn put(&mut self, amount: u32, end: Day, cap: Day) -> bool
         requires { ⌜ units (held (now self)) + amount < 2 ^ 32 ⌝ }
-        ensures answer { λ r. ⌜ r ≡ leb (length (folded (with-capped (cap .0)) (held (now (self .entry))) (as-lot amount (end .0)))) 31 ⌝ }
+        ensures answer { λ r. ⌜ r ≡ leb (length (folded (with-capped (cap .0)) (held (now (self .entry))) (as-lot amount (end .0)))) most-lots ⌝ }
         ensures lots { λ r. ⌜ held (now (self .exit)) ≡ cond r (folded (with-capped (cap .0)) (held (now (self .entry))) (as-lot amount (end .0))) (held (now (self .entry))) ⌝ }
     {
-        if amount == 0 {
-            return true;
-        }
-        self.add(Lot { amount, end }.capped(cap))
+        amount == 0 || self.add(Lot { amount, end }.capped(cap))
     }
 
     // The lots with each end past the cap lowered to it, and those of equal end joined.

@@ -2,7 +2,9 @@
 ghost use mathlib.Core.Path.{_≡_};
 ghost use Rattle.book.specs.Allowance.{empty};
 ghost use Rattle.table_book.specs.Meaning.{meaning};
+ghost use Rattle.table_book.specs.Room.{most-lots};
 use crate::lots::Lots;
+use crate::lots::MOST_LOTS;
 use crate::table::Table;
 use book::answers::Cleared;
 use book::answers::Drawn;
@@ -25,9 +27,9 @@ impl Table {
 }
 
 pub impl Book for Table as TableBook {
-    const CAPACITY: usize = 31;
+    const CAPACITY: usize = MOST_LOTS;
 
-    ghost most = { 31 };
+    ghost most = { most-lots };
 
     ghost means = { meaning };
 
@@ -94,9 +96,9 @@ pub impl Book for Table as TableBook {
     }
 
     fn old_after(&self, day: Day) -> u32 {
-        let mut next = self.old;
-        next.lapse(day);
-        next.sum()
+        let mut lots = self.old;
+        lots.lapse(day);
+        lots.sum()
     }
 
     fn set_aside_after(&self, day: Day, end: Day, cap: Day) -> Result<(), BookFault> {

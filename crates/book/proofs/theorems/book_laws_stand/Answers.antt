@@ -1,3 +1,4 @@
+-- Each law by its proof.
 use Rattle.book.proofs.Laws.{fill-sum, draw-sum, lapse-sum, carry-sum, clear-sum, aside-sum}
 use Rattle.book.proofs.Laws.{lapse-twice, ended-twice, lapse-carry, ended-all, draw-all, draw-first, draw-last}
 use Rattle.book.proofs.Laws.{empty-kept, fill-kept, draw-kept, lapse-kept, carry-kept, aside-kept}

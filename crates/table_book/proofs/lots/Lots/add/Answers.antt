@@ -1,10 +1,9 @@
-use mathlib.Core.Path.{_≡_, refl, sym, ap, _∙_}
-use mathlib.Core.Bool.{cond}
-use mathlib.Core.List.{_∷_, [], _++_, append-assoc}
-use Prim.Native.Nat.{_+_, _<_, _≤_}
+-- One lot more is joined with the lot of equal end, or goes in before the first that ends later.
+use mathlib.Core.Path.{_≡_, sym, ap, _∙_}
+use Prim.Native.Nat.{_+_, _<_}
 use native.Mathlib.Omega.{arith}
-use lib.Dec.{leb}
-use lib.ListN.{length, getD, take, drop, set, length-set}
+use borrow.Author.Needs.{needs}
+use lib.ListN.{length, getD, length-set}
 use lib.Seq.{take-set-lt}
 use Rattle.std.specs.shelf.Lists.{inserted}
 use Rattle.std.proofs.shelf.Tests.{le-leb}
@@ -32,17 +31,19 @@ insert-requires c κs = let n = ap (λ x. x .len) (c .loop-i .inv .0) in omega a
 pub loop-i-again : need.loop-i-again
 loop-i-again c =
     let n = ap (λ x. x .len) (c .loop-i .inv .0) in
-    (c .loop-i .inv .0, goes-on (c .loop-i .self) (c .args .lot) (c .loop-i .i) (omega arith) (c .loop-i .inv .1) (omega arith))
+    let before : getD (c .loop-i .self .lots) (c .loop-i .i) none .end .0 < c .args .lot .end .0 = search needs in
+    (c .loop-i .inv .0, goes-on (c .loop-i .self) (c .args .lot) (c .loop-i .i) (omega arith) (c .loop-i .inv .1) before)
 
-pub returns-then-self-i : need.returns-then-self-i
-returns-then-self-i c =
+pub returns-then-eq : need.returns-then-eq
+returns-then-eq c =
     let s = c .loop-i .self in
     let i = c .loop-i .i in
     let l = c .args .lot in
     let k = getD (s .lots) i none in
+    let equal : k .end .0 ≡ l .end .0 = search needs in
     let v : Lot = record { amount = k .amount + l .amount; end = k .end } in
     let n = ap (λ x. x .len) (c .loop-i .inv .0) in
-    let e = sym (goes-into s l i (omega arith) (c .loop-i .inv .1) (c .if-self-i .taken)) ∙ ap (λ x. with-lot l (held x)) (c .loop-i .inv .0) in
+    let e = sym (goes-into s l i (omega arith) (c .loop-i .inv .1) equal) ∙ ap (λ x. with-lot l (held x)) (c .loop-i .inv .0) in
     let m = ap length e in
     let o = length-set (held s) i v in
     let q = length-held s in
@@ -51,11 +52,12 @@ returns-then-self-i c =
       lots = take-set-lt (s .len) (s .lots) i v (omega arith) ∙ e;
     }
 
-pub returns-then-self-i-2 : need.returns-then-self-i-2
-returns-then-self-i-2 c =
+pub returns-then-gt : need.returns-then-gt
+returns-then-gt c =
     let s = c .loop-i .self in
     let l = c .args .lot in
-    let g = sym (goes-in s l (c .loop-i .i) (c .loop-i .inv .1) (λ h. c .if-self-i-2 .taken)) ∙ ap (λ x. with-lot l (held x)) (c .loop-i .inv .0) in
+    let past : l .end .0 < getD (s .lots) (c .loop-i .i) none .end .0 = search needs in
+    let g = sym (goes-in s l (c .loop-i .i) (c .loop-i .inv .1) (λ h. past)) ∙ ap (λ x. with-lot l (held x)) (c .loop-i .inv .0) in
     let o = ap held (c .loop-i .inv .0) in
     record { answer = cc; lots = cc }
 

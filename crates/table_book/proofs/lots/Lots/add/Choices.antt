@@ -1,3 +1,4 @@
+-- The lots that a new lot has been moved past end before it.
 use mathlib.Core.Path.{_≡_}
 use mathlib.Core.List.{_++_}
 use lib.ListN.{take, drop}

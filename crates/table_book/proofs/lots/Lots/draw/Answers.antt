@@ -1,11 +1,11 @@
-use mathlib.Core.Path.{_≡_, refl, sym, ap, _∙_}
-use Prim.Native.Nat.{ℕ, _+_, _-_, _<_, _≤_, min}
+-- A draw lowers lots from the first on, and stops at one that is not emptied.
+use mathlib.Core.Path.{_≡_, sym, ap, _∙_}
+use Prim.Native.Nat.{_+_, _-_, _<_, _≤_}
 use native.Mathlib.Omega.{arith}
-use mathlib.Core.List.{[], _∷_}
+use mathlib.Core.List.{_∷_}
 use lib.ListN.{length, getD, drop, take, set, length-set}
 use Rattle.std.proofs.shelf.Lists.{getD-set-same, drop-all}
 use Rattle.std.proofs.shelf.Tests.{cond-true, cond-false, lt-ltb, le-ltb}
-use Rattle.book.specs.declared.lot.Lot.{Lot}
 use Rattle.book.specs.Allowance.{units, undrawn}
 use Rattle.table_book.specs.Held.{held}
 use Rattle.table_book.proofs.Rows.{none, at, next, after-set, length-held}

@@ -1,3 +1,4 @@
+-- What is still to draw, and on which lots, at each turn of a draw.
 use mathlib.Core.Path.{_≡_}
 use Prim.Native.Nat.{_+_, _-_, _≤_, min}
 use lib.ListN.{drop}

@@ -1,3 +1,4 @@
+-- A copy to the front removes the first lots.
 use native.Mathlib.Omega.{arith}
 use Rattle.table_book.proofs.Places.{closed}
 use Rattle.table_book.proofs.lots.Lots.forget.Needs as need

@@ -1,4 +1,5 @@
-use mathlib.Core.Path.{_≡_, refl, sym, ap, _∙_}
+-- A copy by one place makes room for a lot.
+use mathlib.Core.Path.{refl, sym}
 use native.Mathlib.Omega.{arith}
 use lib.ListN.{length}
 use Rattle.std.specs.shelf.Lists.{inserted}
@@ -9,8 +10,8 @@ use Rattle.table_book.proofs.Rows.{length-held}
 use Rattle.table_book.proofs.Places.{opened}
 use Rattle.table_book.proofs.lots.Lots.insert.Needs as need
 
-pub returns-then-self-eq31 : need.returns-then-self-eq31
-returns-then-self-eq31 c =
+pub returns-then-self-eq-MOST-LOTS : need.returns-then-self-eq-MOST-LOTS
+returns-then-self-eq-MOST-LOTS c =
     let t = c .args .self .now in
     let n = length-held t in
     let m = length-inserted (held t) (c .args .at) (c .args .lot) (omega arith) in

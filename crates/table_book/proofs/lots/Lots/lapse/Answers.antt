@@ -1,10 +1,11 @@
-use mathlib.Core.Path.{_≡_, refl, sym, ap, _∙_}
+-- A lapse keeps the lots that end after the day, and sums the others.
+use mathlib.Core.Path.{_≡_, ap, _∙_}
 use mathlib.Core.Bool.{not}
-use Prim.Native.Nat.{_+_, _<_, _≤_}
+use Prim.Native.Nat.{_<_, _≤_}
 use native.Mathlib.Omega.{arith}
+use borrow.Author.Needs.{needs}
 use lib.Dec.{leb}
-use lib.ListN.{getD, length, take, drop}
-use Rattle.std.specs.shelf.Lists.{kept-by}
+use lib.ListN.{getD, length, take}
 use Rattle.std.proofs.shelf.Filters.{keeping-more-no, keeping-more-set}
 use Rattle.std.proofs.shelf.Lists.{getD-default, drop-all}
 use Rattle.std.proofs.shelf.Tests.{le-leb, lt-leb}
@@ -22,12 +23,13 @@ add-sum c =
     let same = same-at (t .lots) (c .loop-i .self .lots) i (c .loop-i .inv .0 .rest) in
     let a = ap (λ k. k .amount) same in
     let e = ap (λ k. k .end .0) same in
+    let by : getD (c .loop-i .self .lots) i none .end .0 ≤ day = search needs in
     let m = ended-more day t i (omega arith) (omega arith) in
     let u = units-kept (λ k. leb (k .end .0) day) (held t) in
     omega arith
 
-pub loop-i-again-then-lot-day : need.loop-i-again-then-lot-day
-loop-i-again-then-lot-day c =
+pub loop-i-again-then-ended-by : need.loop-i-again-then-ended-by
+loop-i-again-then-ended-by c =
     let t = c .args .self .now in
     let i = c .loop-i .i in
     let ys = c .loop-i .self .lots in
@@ -36,6 +38,7 @@ loop-i-again-then-lot-day c =
     let same = same-at (t .lots) ys i (c .loop-i .inv .0 .rest) in
     let a = ap (λ k. k .amount) same in
     let e = ap (λ k. k .end .0) same in
+    let by : x .end .0 ≤ day = search needs in
     let m = ended-more day t i (omega arith) (omega arith) in
     let w : i < length ys = omega arith in
     (keeping-more-no (c .loop-i .inv .0) w (ap not (le-leb (x .end .0) day (omega arith))) (getD-default ys i none x w), omega arith, c .loop-i .inv .2)
@@ -49,6 +52,7 @@ loop-i-again c =
     let x = getD ys i none in
     let same = same-at (t .lots) ys i (c .loop-i .inv .0 .rest) in
     let e = ap (λ k. k .end .0) same in
+    let past : day < x .end .0 = search needs in
     let m = ended-same day t i (omega arith) (omega arith) in
     let w : i < length ys = omega arith in
     (keeping-more-set (c .loop-i .inv .0) w (ap not (lt-leb (x .end .0) day (omega arith))) (getD-default ys i none x w), omega arith, c .loop-i .inv .2)

@@ -1,3 +1,4 @@
+-- The lots that last so far are in the front, and the sum is of those that ended.
 use mathlib.Core.Path.{_≡_}
 use mathlib.Core.Bool.{not}
 use Prim.Native.Nat.{_+_}

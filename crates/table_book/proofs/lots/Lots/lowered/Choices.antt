@@ -1,3 +1,4 @@
+-- The lots gathered so far, followed by those still to come, give all of them gathered.
 use mathlib.Core.Path.{_≡_}
 use Prim.Native.Nat.{_+_, _≤_}
 use lib.ListN.{drop}

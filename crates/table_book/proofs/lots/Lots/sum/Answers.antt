@@ -1,6 +1,6 @@
+-- The sum of the lots.
 use mathlib.Core.Path.{ap}
 use native.Mathlib.Omega.{arith}
-use lib.ListN.{drop}
 use Rattle.std.proofs.shelf.Lists.{drop-all}
 use Rattle.book.specs.Allowance.{units}
 use Rattle.table_book.specs.Held.{held}

@@ -1,3 +1,4 @@
+-- The sum so far, with what is still to be added, is the whole sum.
 use mathlib.Core.Path.{_≡_}
 use Prim.Native.Nat.{_+_}
 use lib.ListN.{drop}

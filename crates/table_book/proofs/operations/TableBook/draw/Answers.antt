@@ -1,3 +1,4 @@
+-- A draw keeps the order of the old lots and their bound.
 use mathlib.Core.Path.{ap, _∙_}
 use native.Mathlib.Omega.{arith}
 use Rattle.book.specs.Allowance.{units, rising}

@@ -1,3 +1,4 @@
+-- A lapse keeps the order of the old lots and their bound.
 use mathlib.Core.Path.{ap, _∙_}
 use mathlib.Core.Bool.{not}
 use native.Mathlib.Omega.{arith}
