@@ -1,13 +1,13 @@
 -- The laws of months and due days.
-use mathlib.Core.Path.{_≡_}
+use mathlib.Core.Path.{_≡_, ap, _∙_}
 use mathlib.Core.Logic.{inl, inr}
 use Prim.Native.Nat.{ℕ, _+_, _-_, _<_, _≤_, min}
 use native.Mathlib.Omega.{arith}
 use Rattle.std.proofs.shelf.Tests.{cases-lt}
-use Rattle.calendar.specs.Gregorian.{month-length, first}
+use Rattle.calendar.specs.Gregorian.{year-of, month-of-year, month-length, first}
 use Rattle.calendar.specs.Dates.{last-day}
-use Rattle.calendar.specs.Due.{month-of, month-day, due-after, last-fee-day, Due-later, Due-within, Due-next-month, Month-of-monotone, Month-of-before, Month-day-least, Month-day-most}
-use Rattle.calendar.proofs.Months.{next, first-monotone, length-least, length-most, number-in, month-of-within, month-of-is}
+use Rattle.calendar.specs.Due.{month-of, month-day, due-after, last-fee-day, Due-later, Due-within, Due-next-month, Due-dated, Month-of-monotone, Month-of-before, Month-day-least, Month-day-most}
+use Rattle.calendar.proofs.Months.{dated, next, first-monotone, length-least, length-most, number-in, month-of-within, month-of-is}
 
 -- the due day, counted from the first day of the next month
 pub due-first : (d a : ℕ) → due-after d a ≡ first (month-of d + 1) + (min a (month-length (month-of d + 1)) - 1)
@@ -33,6 +33,17 @@ due-next-month d a =
     let f = due-first d a in
     let l = length-least (month-of d + 1) in
     month-of-is (month-of d + 1) (due-after d a) (omega arith)
+
+pub due-dated : Due-dated
+unfolding month-day
+due-dated d a h =
+    let k = month-of d + 1 in
+    let f = due-first d a in
+    let l = length-least k in
+    let e = due-next-month d a in
+    let g = ap first e in
+    let m : month-day (due-after d a) ≡ min a (month-length k) = omega arith in
+    ap (λ x. dated (year-of x) (month-of-year x) (month-day (due-after d a))) e ∙ ap (dated (year-of k) (month-of-year k)) m
 
 pub month-of-before : Month-of-before
 month-of-before d k h =

@@ -14,9 +14,10 @@ use crate::table::length_of;
 use crate::table::month_of;
 use quantities::time::Day;
 
-// The years that the calendar covers.
+// The first year of the calendar.
 const FIRST_YEAR: u16 = 2000;
 
+// The last year of the calendar.
 const LAST_YEAR: u16 = 2100;
 
 // The last day of the calendar, 31 December 2100.

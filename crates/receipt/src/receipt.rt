@@ -37,7 +37,11 @@ impl Receipt {
     }
 
     // Of units alone.
-    pub fn of_units(minutes: Tally<Minute>, megabytes: Tally<Megabyte>, messages: Tally<Message>) -> Receipt
+    pub fn of_units(
+        minutes: Tally<Minute>,
+        megabytes: Tally<Megabyte>,
+        messages: Tally<Message>,
+    ) -> Receipt
         ensures { λ r. ⌜ receipt-of r ≡ units-only (record { minutes = tally-of minutes; megabytes = tally-of megabytes; messages = tally-of messages }) ⌝ }
     {
         Receipt {
