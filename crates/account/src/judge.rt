@@ -181,11 +181,14 @@ pub(crate) fn judge<L: Line, B: Book>(ledger: &Ledger<B>, line: &L, day: CallDay
     ensures told { λ r. ⌜ outcome-of r ≡ first-refusal (checks (world (L·Line .terms) (L·Line .entry) (L·Line .lawful) (now (line .entry)) (B·Book .most)) (day .day .0) call (bring-up gregorian (day .day .0) (state-of (B·Book .means) (now (ledger .entry))) .state)) ⌝ }
 {
     match ledger.status {
-        Status::Active(due) if due.0 <= day.day.0 => {
+        Status::Blocked => judge_at(ledger, line, day, call),
+        Status::Active(due) => {
+            if due.0 > day.day.0 {
+                return judge_at(ledger, line, day, call);
+            }
             let mut next = ahead(ledger, day.day);
             let _ = settle(&mut next, day);
             judge_at(&next, line, day, call)
         }
-        _ => judge_at(ledger, line, day, call),
     }
 }

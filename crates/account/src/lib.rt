@@ -1,3 +1,4 @@
 // An account: opened on a plan, changed by calls, asked by questions.
 pub mod account;
 mod judge;
+mod perform;

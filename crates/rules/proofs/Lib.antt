@@ -5,3 +5,4 @@ pub mod Steps
 pub mod Marks
 pub mod Closing
 pub mod Ahead
+pub mod Waking
