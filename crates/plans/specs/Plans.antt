@@ -3,7 +3,6 @@ use mathlib.Core.Bool.{Bool, true, false}
 use Prim.Native.Nat.{ℕ, _*_}
 use Rattle.tariff.specs.Terms.{Terms, UnitTerms, Entry}
 use Rattle.tariff.specs.declared.terms.Fate.{Fate}
-use Rattle.tariff.specs.declared.terms.Fate.the-variants.{Kept, Wiped}
 
 -- Unlimited minutes are a grant of 45,000: a month of 31 days has 44,640.
 abbrev pub unlimited : ℕ

@@ -1,6 +1,6 @@
 -- A line of two tables that pass the test is lawful: the proof that the member `lawful` of such a line hands over.
 use mathlib.Core.Path.{_≡_, refl, sym, subst, _∙_}
-use mathlib.Core.Bool.{Bool, true, false, cond, _&&_, _||_}
+use mathlib.Core.Bool.{true, _||_}
 use mathlib.Core.List.{List, [], _∷_}
 use mathlib.Core.Logic.{⊎-elim}
 use Prim.Native.Nat.{ℕ, zero, suc, _+_, _-_, _≤_, _<_}
@@ -11,9 +11,8 @@ use Rattle.std.specs.declared.option.Option.{Option}
 use Rattle.std.specs.declared.option.Option.the-variants.{Some, None}
 use Rattle.std.proofs.shelf.Tests.{and-parts, or-cases, leb-true, ltb-true, cond-both, cond-false, ne-eqb, cases-eq, false≢true}
 use Rattle.quantities.specs.Limits.{most-fee, most-grant, most-price, most-entry-price}
-use Rattle.quantities.specs.declared.unit.UnitKind.{UnitKind}
 use Rattle.quantities.specs.declared.unit.UnitKind.the-variants.{Minutes, Megabytes, Messages}
-use Rattle.tariff.specs.Terms.{Terms, UnitTerms, Entry, Within-limits, Lawful, amount, price-beyond}
+use Rattle.tariff.specs.Terms.{UnitTerms, Entry, Within-limits, Lawful}
 use Rattle.tariff.specs.Tables.{Plan, Way, Direction, upward, downward, anyhow, listed-terms, listed-entry, among, goes, joins, unit-within, plan-within, plans-within, way-apart, all-listed, way-within, ways-within, lawful-tables}
 
 -- what is shown of an answer, where there is one

@@ -1,5 +1,4 @@
 // Two lines together: the first that has terms for a code answers, and entry goes to the line that answers for the target.
-ghost use mathlib.Core.Path.{_≡_};
 ghost use Rattle.tariff.specs.Together.{joined-terms, joined-entry};
 ghost use Rattle.tariff.specs.LawfulTogether.{joined-lawful};
 use crate::line::Line;
