@@ -4,3 +4,4 @@ pub mod Advance
 pub mod Steps
 pub mod Marks
 pub mod Closing
+pub mod Ahead

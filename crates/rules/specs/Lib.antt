@@ -5,3 +5,5 @@ pub mod Calls
 pub mod Checks
 pub mod Runs
 pub mod Laws
+pub mod Gregorian
+pub mod Ahead

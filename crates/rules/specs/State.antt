@@ -23,6 +23,8 @@ pub record Calendar : Type 0 where
   pub due-later : (d a : ℕ) → d < due-after d a
   pub due-next-month : (d a : ℕ) → month-of (due-after d a) ≡ month-of d + 1
   pub month-of-monotone : (d e : ℕ) → d ≤ e → month-of d ≤ month-of e
+  pub month-day-least : (d : ℕ) → 1 ≤ month-day d
+  pub month-day-most : (d : ℕ) → month-day d ≤ 31
 
 -- The calendar, a tariff line's two tables and the capacity of the books.
 pub record World : Type 0 where
@@ -31,7 +33,6 @@ pub record World : Type 0 where
   pub entry : ℕ → ℕ → Option Entry
   pub capacity : ℕ
   pub lawful : Lawful terms entry
-  pub roomy : 1 ≤ capacity
 
 -- All of an account but the moment of its latest accepted call: the plan and a copy of its terms, the balance, the
 -- status, the last fee day and the anchor (none before the first fee), whether the option is on, and the three books.
