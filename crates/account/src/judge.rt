@@ -70,9 +70,18 @@ fn charge<B: Book>(ledger: &Ledger<B>, day: Day, service: Option<Service>, n: u3
     let books = &ledger.books;
     match service {
         None => Sums(0),
-        Some(Service::Counted(UnitKind::Minutes)) => terms.minutes.beyond.cost(beyond(&books.minutes, day, n)),
-        Some(Service::Counted(UnitKind::Megabytes)) => terms.megabytes.beyond.cost(beyond(&books.megabytes, day, n)),
-        Some(Service::Counted(UnitKind::Messages)) => terms.messages.beyond.cost(beyond(&books.messages, day, n)),
+        Some(Service::Counted(UnitKind::Minutes)) => terms
+            .minutes
+            .beyond
+            .cost(beyond(&books.minutes, day, n)),
+        Some(Service::Counted(UnitKind::Megabytes)) => terms
+            .megabytes
+            .beyond
+            .cost(beyond(&books.megabytes, day, n)),
+        Some(Service::Counted(UnitKind::Messages)) => terms
+            .messages
+            .beyond
+            .cost(beyond(&books.messages, day, n)),
         Some(Service::International) => terms.international.price.cost(Count::new(n)),
     }
 }
@@ -89,7 +98,12 @@ fn runs_past<B: Book>(ledger: &Ledger<B>, day: Day, service: Option<Service>, n:
     }
 }
 
-fn judge_top_up<L: Line, B: Book>(ledger: &Ledger<B>, line: &L, day: CallDay, sums: Sums) -> Result<(), Fault>
+fn judge_top_up<L: Line, B: Book>(
+    ledger: &Ledger<B>,
+    line: &L,
+    day: CallDay,
+    sums: Sums,
+) -> Result<(), Fault>
     ensures told { λ r. ⌜ outcome-of r ≡ first-refusal (checks (world (L·Line .terms) (L·Line .entry) (L·Line .lawful) (now (line .entry)) (B·Book .most)) (day .day .0) (top-up-call sums) (lapse-all (day .day .0) (state-of (B·Book .means) (now (ledger .entry))) .state)) ⌝ }
 {
     if sums.0 < 1 || sums.0 > MOST_TOP_UP {
@@ -129,7 +143,12 @@ fn judge_use<L: Line, B: Book>(
 }
 
 // Which refusal a call meets after a lapse on the day.
-fn judge_at<L: Line, B: Book>(ledger: &Ledger<B>, line: &L, day: CallDay, call: Call) -> Result<(), Fault>
+fn judge_at<L: Line, B: Book>(
+    ledger: &Ledger<B>,
+    line: &L,
+    day: CallDay,
+    call: Call,
+) -> Result<(), Fault>
     requires { ⌜ runs call ≡ true ⌝ }
     ensures told { λ r. ⌜ outcome-of r ≡ first-refusal (checks (world (L·Line .terms) (L·Line .entry) (L·Line .lawful) (now (line .entry)) (B·Book .most)) (day .day .0) call (lapse-all (day .day .0) (state-of (B·Book .means) (now (ledger .entry))) .state)) ⌝ }
 {
@@ -176,7 +195,12 @@ fn ahead<B: Book>(ledger: &Ledger<B>, day: Day) -> Ledger<Small>
 
 // Which refusal a call meets once the ledger is brought up to the day. Where a due day comes first, it is looked at
 // ahead on small books.
-pub(crate) fn judge<L: Line, B: Book>(ledger: &Ledger<B>, line: &L, day: CallDay, call: Call) -> Result<(), Fault>
+pub(crate) fn judge<L: Line, B: Book>(
+    ledger: &Ledger<B>,
+    line: &L,
+    day: CallDay,
+    call: Call,
+) -> Result<(), Fault>
     requires { ⌜ runs call ≡ true ⌝ }
     ensures told { λ r. ⌜ outcome-of r ≡ first-refusal (checks (world (L·Line .terms) (L·Line .entry) (L·Line .lawful) (now (line .entry)) (B·Book .most)) (day .day .0) call (bring-up gregorian (day .day .0) (state-of (B·Book .means) (now (ledger .entry))) .state)) ⌝ }
 {

@@ -4,7 +4,7 @@ use mathlib.Core.Bool.{true}
 use mathlib.Core.List.{List, [], _∷_, _++_}
 use Prim.Native.Nat.{ℕ, _+_, _<_, _≤_, min}
 use native.Mathlib.Omega.{arith}
-use lib.ListN.{length}
+use lib.ListN.{length, length-append}
 use Rattle.std.specs.shelf.Lists.{folded}
 use Rattle.std.proofs.shelf.Ways.{tells}
 use Rattle.book.specs.declared.lot.Lot.{Lot}
@@ -32,11 +32,11 @@ rising-with d l (k ∷ ks) a h s =
     grind (arith, tells)
 
 -- many
-rising-all : (c d : ℕ) (ks ls : List Lot) → rising 0 ks ≡ true → rising d ls ≡ true → rising 0 (folded (with-capped c) ks ls) ≡ true
-rising-all c d ks [] s r = s
-rising-all c d ks (l ∷ ls) s r =
-    let p = parts d l ls r in
-    rising-all c (l .end .0 + 1) (with-capped c ks l) ls (rising-with 0 (capped c l) ks (p .0) (omega arith) s) (p .2)
+rising-all : (c d e : ℕ) (ks ls : List Lot) → d ≤ c → d ≤ e → rising d ks ≡ true → rising e ls ≡ true → rising d (folded (with-capped c) ks ls) ≡ true
+rising-all c d e ks [] h k s r = s
+rising-all c d e ks (l ∷ ls) h k s r =
+    let p = parts e l ls r in
+    rising-all c d (l .end .0 + 1) (with-capped c ks l) ls h (omega arith) (rising-with d (capped c l) ks (p .0) (omega arith) s) (p .2)
 
 units-all : (c : ℕ) (ks ls : List Lot) → units (folded (with-capped c) ks ls) ≡ units ks + units ls
 units-all c ks [] = omega arith
@@ -72,7 +72,15 @@ units-aside n e c ls =
     ∙ units-all c (gathered c ls) (as-lot n e)
     ∙ (let h = units-gathered c ls in let k = units-lot n e in omega arith)
 
-pub rising-aside : (n e c : ℕ) (ls : List Lot) → rising 0 ls ≡ true → rising 0 (gathered c (ls ++ as-lot n e)) ≡ true
-rising-aside n e c ls s =
-    ap (rising 0) (all-append c [] ls (as-lot n e))
-    ∙ rising-all c 0 (gathered c ls) (as-lot n e) (rising-all c 0 [] ls refl s) (rising-lot n e)
+pub rising-aside : (d n e c : ℕ) (ls : List Lot) → d ≤ e → d ≤ c → rising d ls ≡ true → rising d (gathered c (ls ++ as-lot n e)) ≡ true
+rising-aside d n e c ls h k s =
+    ap (rising d) (all-append c [] ls (as-lot n e))
+    ∙ rising-all c d d (gathered c ls) (as-lot n e) k (omega arith) (rising-all c d d [] ls k (omega arith) refl s) (rising-lot d n e h)
+
+-- lots put to no fresh amount are only lowered and joined
+pub length-aside-none : (n e c : ℕ) (ls : List Lot) → n ≡ 0 → length (gathered c (ls ++ as-lot n e)) ≤ length ls
+length-aside-none n e c ls z =
+    let h = length-gathered c (ls ++ as-lot n e) in
+    let a = length-append ls (as-lot n e) in
+    let l : length (as-lot n e) ≡ 0 = grind (arith, tells) in
+    omega arith

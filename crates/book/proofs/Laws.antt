@@ -1,17 +1,20 @@
 -- The laws of the allowance book.
 use mathlib.Core.Path.{_≡_, refl, ap}
-use mathlib.Core.Bool.{not}
-use Prim.Native.Nat.{ℕ, _-_, _≤_}
+use mathlib.Core.Bool.{true, not}
+use mathlib.Core.List.{List, [], _∷_}
+use Prim.Native.Nat.{ℕ, _+_, _-_, _≤_}
 use native.Mathlib.Omega.{arith}
 use lib.Dec.{leb}
 use lib.ListN.{length}
 use Rattle.std.proofs.shelf.Ways.{tells}
 use Rattle.std.specs.declared.result.Result.the-variants.{Ok}
 use Rattle.quantities.specs.Limits.{most-grant, most-old-units}
-use Rattle.book.specs.Allowance.{Allowance, units, as-lot, fill-answer, aside, aside-answer}
+use Rattle.book.specs.declared.lot.Lot.{Lot}
+use Rattle.book.specs.Allowance.{Allowance, units, rising, as-lot, lasting, fill-answer, aside, aside-answer}
 use Rattle.book.specs.Laws
-use Rattle.book.proofs.Lots.{units-lot, units-parts, units-undrawn, length-undrawn, length-kept, none-undrawn, rising-lot, rising-undrawn, rising-kept, lasting-again, ended-again, ended-undrawn}
-use Rattle.book.proofs.Gathering.{units-aside, rising-aside}
+use Rattle.book.proofs.Lots.{parts, units-lot, units-parts, units-undrawn, length-undrawn, length-kept, none-undrawn, rising-lot, rising-undrawn, rising-kept, lasting-again, ended-again, ended-undrawn}
+use Rattle.book.proofs.Gathering.{units-aside, length-aside-none, rising-aside}
+use Rattle.book.proofs.Days.{aside-past-cap}
 
 pub fill-sum : Laws.Fill-sum
 fill-sum n b z = omega arith
@@ -81,7 +84,7 @@ pub carry-kept : Laws.Carry-kept
 carry-kept C e b r k =
     let u = units-lot (b .fresh) e in
     let m = few-lot (b .fresh) e in
-    record { fresh = omega arith; few = omega arith; sum = omega arith; ordered = rising-lot (b .fresh) e }
+    record { fresh = omega arith; few = omega arith; sum = omega arith; ordered = rising-lot 0 (b .fresh) e (omega arith) }
 
 few-aside : (C e c : ℕ) (b : Allowance) → aside-answer C e c b ≡ Ok tt → length (aside e c b .lots) ≤ C
 few-aside C e c b h = grind (arith, tells)
@@ -91,4 +94,29 @@ small-aside C e c b h = grind (arith, tells)
 
 pub aside-kept : Laws.Aside-kept
 aside-kept C e c b k h =
-    record { fresh = omega arith; few = few-aside C e c b h; sum = small-aside C e c b h; ordered = rising-aside (b .fresh) e c (b .lots) (k .ordered) }
+    record { fresh = omega arith; few = few-aside C e c b h; sum = small-aside C e c b h; ordered = rising-aside 0 (b .fresh) e c (b .lots) (omega arith) (omega arith) (k .ordered) }
+
+-- with few lots and units nothing is refused
+not-refused : (C e c : ℕ) (b : Allowance) → length (aside e c b .lots) ≤ C → units (aside e c b .lots) ≤ most-old-units → aside-answer C e c b ≡ Ok tt
+not-refused C e c b h k = grind (arith, tells)
+
+pub aside-nothing : Laws.Aside-nothing
+aside-nothing C e c b k z =
+    let m = length-aside-none (b .fresh) e c (b .lots) z in
+    let u = units-aside (b .fresh) e c (b .lots) in
+    not-refused C e c b (omega arith) (omega arith)
+
+-- lots that all end from d to c are at most one for each of these days
+few-days : (d c : ℕ) (ls : List Lot) → rising d ls ≡ true → units (lasting c ls) ≡ 0 → length ls ≤ c + 1 - d
+few-days d c [] s z = omega arith
+few-days d c (l ∷ ls) s z =
+    let p = parts d l ls s in
+    let here : l .end .0 ≤ c = grind (arith, tells) in
+    let rest : units (lasting c ls) ≡ 0 = grind (arith, tells) in
+    let h = few-days (l .end .0 + 1) c ls (p .2) rest in
+    omega arith
+
+pub aside-room : Laws.Aside-room
+aside-room C d e c b s h k m =
+    let f = few-days d c (aside e c b .lots) (rising-aside d (b .fresh) e c (b .lots) h k s) (aside-past-cap e c c b (omega arith)) in
+    omega arith

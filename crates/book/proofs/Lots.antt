@@ -50,8 +50,8 @@ weaker d e (l ∷ ls) h s = let p = parts e l ls s in made d l ls (p .0) (omega 
 pub after : (d : ℕ) (l : Lot) (ls : List Lot) → rising d (l ∷ ls) ≡ true → rising d ls ≡ true
 after d l ls s = let p = parts d l ls s in weaker d (l .end .0 + 1) ls (omega arith) (p .2)
 
-pub rising-lot : (n e : ℕ) → rising 0 (as-lot n e) ≡ true
-rising-lot n e = grind (arith, tells)
+pub rising-lot : (d n e : ℕ) → d ≤ e → rising d (as-lot n e) ≡ true
+rising-lot d n e h = grind (arith, tells)
 
 -- Draw
 pub rising-undrawn : (d n : ℕ) (ls : List Lot) → rising d ls ≡ true → rising d (undrawn n ls) ≡ true

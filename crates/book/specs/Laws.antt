@@ -4,6 +4,7 @@ use mathlib.Core.Bool.{true, cond}
 use mathlib.Core.List.{List, _++_}
 use Prim.Native.Nat.{ℕ, _+_, _-_, _<_, _≤_}
 use lib.Dec.{ltb}
+use lib.ListN.{length}
 use Rattle.std.specs.declared.result.Result.the-variants.{Ok}
 use Rattle.book.specs.declared.lot.Lot.{Lot}
 use Rattle.book.specs.Allowance.{Allowance, Kept, units, left, rising, empty, as-lot, fill-answer, filled, draw-answer, drawn, ended, lasting, lapsed, carried, aside, aside-answer}
@@ -74,6 +75,14 @@ Aside-past-cap = (e c x : ℕ) (b : Allowance) → c ≤ x → units (lasting x 
 
 abbrev pub Aside-no-longer : Type 0
 Aside-no-longer = (e c x : ℕ) (b : Allowance) → units (lasting x (aside e c b .lots)) ≤ units (lasting x (b .lots)) + cond (ltb x e) (b .fresh) 0
+
+-- Without a fresh amount Set aside is never refused.
+abbrev pub Aside-nothing : Type 0
+Aside-nothing = (C e c : ℕ) (b : Allowance) → Kept C b → b .fresh ≡ 0 → aside-answer C e c b ≡ Ok tt
+
+-- Where all ends lie from day d on and the cap is among the C days from d on, the lots find room.
+abbrev pub Aside-room : Type 0
+Aside-room = (C d e c : ℕ) (b : Allowance) → rising d (b .lots) ≡ true → d ≤ e → d ≤ c → c < d + C → length (aside e c b .lots) ≤ C
 
 -- What holds of every book is kept by every operation that isn't refused.
 abbrev pub Empty-kept : Type 0

@@ -168,9 +168,9 @@ module _ (w : World) (h : 1 ≤ w .capacity) (D : ℕ) (s : State) (t : Tidy s) 
           let q = none-refuses wipes d e Megabytes in
           let r = none-refuses wipes d e Messages in
           let z : first-concern f ≡ None =
-              ap (λ x. concern-of Minutes x (concern-of Megabytes (f Megabytes) (concern-of Messages (f Messages) None))) p
-              ∙ ap (λ x. concern-of Megabytes x (concern-of Messages (f Messages) None)) q
-              ∙ ap (λ x. concern-of Messages x None) r
+          ap (λ x. concern-of Minutes x (concern-of Megabytes (f Megabytes) (concern-of Messages (f Messages) None))) p
+          ∙ ap (λ x. concern-of Megabytes x (concern-of Messages (f Messages) None)) q
+          ∙ ap (λ x. concern-of Messages x None) r
           in cc
 
   entry-refusing-none : (o : Option Entry) → entry-refusing w o D s ≡ None

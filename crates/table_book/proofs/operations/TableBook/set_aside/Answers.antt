@@ -32,7 +32,7 @@ ghost-self c =
     let o = c .args .self .now in
     let p = c .if-not-put .ensures tt .lots ∙ last-put (o .fresh) (c .args .end .0) (c .args .cap .0) (held (c .lowered-next .result)) (held (o .old)) (c .lowered-next .ensures .lots) in
     let u = units-aside (o .fresh) (c .args .end .0) (c .args .cap .0) (held (o .old)) in
-    (ap (rising 0) p ∙ rising-aside (o .fresh) (c .args .end .0) (c .args .cap .0) (held (o .old)) (o .ordered), (omega (arith, ap units p), (omega arith, tt)))
+    (ap (rising 0) p ∙ rising-aside 0 (o .fresh) (c .args .end .0) (c .args .cap .0) (held (o .old)) (omega arith) (omega arith) (o .ordered), (omega (arith, ap units p), (omega arith, tt)))
 
 pub returns : need.returns
 returns c =
