@@ -1,4 +1,5 @@
 // An account: opened on a plan, changed by calls, asked by questions.
 pub mod account;
+mod act;
 mod judge;
 mod perform;
