@@ -4,3 +4,6 @@ pub mod Advance
 pub mod Steps
 pub mod Marks
 pub mod Closing
+pub mod Held
+pub mod Sound
+pub mod SoundRuns

@@ -6,3 +6,4 @@ pub mod Checks
 pub mod Runs
 pub mod Laws
 pub mod Gregorian
+pub mod Bounds

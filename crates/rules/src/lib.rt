@@ -1,6 +1,7 @@
 // The rules of an account: what each call does and refuses, as definitions, and the laws over every run of calls.
 ghost use Rattle.rules.specs.Laws.{Money-closes, Units-close, Day-mark-free, Bringing-up-joins, Refusal-changes-nothing};
 
+pub mod bounds;
 pub mod call;
 
 // The laws of every run of calls from a newly opened account hold.

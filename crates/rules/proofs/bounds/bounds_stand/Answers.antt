@@ -1,0 +1,6 @@
+-- The bounds, each from its proof.
+use Rattle.rules.proofs.SoundRuns.{balance-bounded, blocked-empty, due-day-ahead}
+use Rattle.rules.proofs.bounds.bounds_stand.Needs as need
+
+pub returns : need.returns
+returns c = record { balance = balance-bounded; blocked = blocked-empty; due = due-day-ahead }
