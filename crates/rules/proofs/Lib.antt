@@ -7,3 +7,5 @@ pub mod Closing
 pub mod Held
 pub mod Sound
 pub mod SoundRuns
+pub mod Fees
+pub mod FeesOfCalls

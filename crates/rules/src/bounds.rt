@@ -1,11 +1,12 @@
 // What no run of calls passes, as a contract.
-ghost use Rattle.rules.specs.Bounds.{Balance-bounded, Blocked-empty, Due-day-ahead};
+ghost use Rattle.rules.specs.Bounds.{Balance-bounded, Blocked-empty, Due-day-ahead, Fees-grant-in-full};
 
 // The bounds of every account and receipt that calls lead to from a new account hold.
 pub fn bounds_stand() -> u8
     ensures balance { λ _. ⌜ Balance-bounded ⌝ }
     ensures blocked { λ _. ⌜ Blocked-empty ⌝ }
     ensures due { λ _. ⌜ Due-day-ahead ⌝ }
+    ensures grants { λ _. ⌜ Fees-grant-in-full ⌝ }
 {
     0
 }
