@@ -310,10 +310,10 @@ pub affords : (w : World) (a : Account) (e : Event) → refusal w a e ≡ None �
 affords w a e z =
     affords-call w (day-of (e .moment .0)) (e .call) (brought w (e .moment .0) a .state) (passed (all-checks w a e) z .1 .1)
 
-abbrev out-of : Answer → Out
+abbrev pub out-of : Answer → Out
 out-of x = record { state = x .account .state; receipt = x .receipt }
 
-closes-step : (w : World) (a : Account) (e : Event) →
+pub closes-step : (w : World) (a : Account) (e : Event) →
     Closes (paid-by (e .call) (step w a e .outcome)) (a .state .balance) (a .state .books) (out-of (step w a e))
 closes-step w a e = ⊎-elim accept refuse (told w a e)
   where

@@ -21,10 +21,11 @@ use Rattle.rules.specs.State.{Calendar, State, Out, awaited-fee, awaited-grant
 use Rattle.rules.specs.DueDays.{granted, next-due, take-fee, closed, closing, close-month, renew, block, handle, settle, lapse-all, bring-up}
 use Rattle.rules.proofs.Advance.{Rests, Due, look, settle-rests, settle-due}
 
--- a receipt with n fees on the terms t, each with its grant in full
+-- a receipt with n fees on the terms t, each with its grant in full, and with no use beyond an allowance
 pub record Taken (n : ℕ) (t : Terms) (r : Receipt) : Type 0 where
   pub fees : r .fees ≡ n * t .fee
   pub grants : (k : UnitKind) → of k (r .units) .granted ≡ n * amount k t
+  pub unused : (k : UnitKind) → of k (r .units) .beyond ≡ 0
 
 -- no fee and no grant
 abbrev pub Feeless : Receipt → Type 0
@@ -41,6 +42,11 @@ taken-then {n} {m} {t} r s p q = record {
     | Megabytes ↦ joined n m (amount Megabytes t) (r .units .megabytes .granted) (s .units .megabytes .granted) (p .grants Megabytes) (q .grants Megabytes)
     | Messages ↦ joined n m (amount Messages t) (r .units .messages .granted) (s .units .messages .granted) (p .grants Messages) (q .grants Messages)
   ];
+  unused = elim [
+    | Minutes ↦ omega (arith, p .unused Minutes, q .unused Minutes)
+    | Megabytes ↦ omega (arith, p .unused Megabytes, q .unused Megabytes)
+    | Messages ↦ omega (arith, p .unused Messages, q .unused Messages)
+  ];
 }
 
 granted-full : (n : ℕ) (b : Allowance) → b .fresh ≡ 0 → n ≤ most-grant → granted n b ≡ n
@@ -54,6 +60,7 @@ pub taken-fee : (w : Calendar) (d : ℕ) (s : State) → Within-limits (s .terms
 taken-fee w d s h z = record {
   fees = omega arith;
   grants = elim [ Minutes ↦ full Minutes | Megabytes ↦ full Megabytes | Messages ↦ full Messages ];
+  unused = elim [ Minutes ↦ refl | Megabytes ↦ refl | Messages ↦ refl ];
 }
   where
     full : (k : UnitKind) → granted (awaited-grant k s) (of k (s .books)) ≡ 1 * amount k (s .terms)
@@ -61,30 +68,34 @@ taken-fee w d s h z = record {
 
 -- ## Steps without a fee
 
-pub feeless-units : (f : UnitKind → Allowance → Tally) (bs : PerUnit Allowance) → ((k : UnitKind) (b : Allowance) → f k b .granted ≡ 0) → Feeless (units-only (each f bs))
-feeless-units f bs h t = record {
+-- a tally without a grant or a use beyond the allowance
+abbrev pub Plain : Tally → Type 0
+Plain t = (t .granted ≡ 0) × (t .beyond ≡ 0)
+
+pub feeless-from : (r : Receipt) → r .fees ≡ 0 → Plain (r .units .minutes) → Plain (r .units .megabytes) → Plain (r .units .messages) → Feeless r
+feeless-from r f a b c t = record {
   fees = omega arith;
-  grants = elim [
-    | Minutes ↦ omega (arith, h Minutes (bs .minutes))
-    | Megabytes ↦ omega (arith, h Megabytes (bs .megabytes))
-    | Messages ↦ omega (arith, h Messages (bs .messages))
-  ];
+  grants = elim [ Minutes ↦ omega arith | Megabytes ↦ omega arith | Messages ↦ omega arith ];
+  unused = elim [ Minutes ↦ omega arith | Megabytes ↦ omega arith | Messages ↦ omega arith ];
 }
 
+pub feeless-units : (f : UnitKind → Allowance → Tally) (bs : PerUnit Allowance) → ((k : UnitKind) (b : Allowance) → Plain (f k b)) → Feeless (units-only (each f bs))
+feeless-units f bs h = feeless-from (units-only (each f bs)) refl (h Minutes (bs .minutes)) (h Megabytes (bs .megabytes)) (h Messages (bs .messages))
+
 pub feeless-nothing : Feeless nothing
-feeless-nothing t = record { fees = omega arith; grants = elim [ Minutes ↦ omega arith | Megabytes ↦ omega arith | Messages ↦ omega arith ] }
+feeless-nothing = feeless-from nothing refl (refl, refl) (refl, refl) (refl, refl)
 
 pub feeless-then : (r s : Receipt) → Feeless r → Feeless s → Feeless (r ⊕ s)
 feeless-then r s p q t = taken-then r s (p t) (q t)
 
 feeless-close : (e : ℕ) (s : State) → Feeless (close-month e s .receipt)
-feeless-close e s = feeless-units (λ k b. closing (carries-unit k (s .terms)) b) (s .books) (λ k b. refl)
+feeless-close e s = feeless-units (λ k b. closing (carries-unit k (s .terms)) b) (s .books) (λ k b. (refl, refl))
 
 feeless-block : (s : State) → Feeless (block s .receipt)
-feeless-block s = feeless-units (λ k b. ending (units (b .lots)) (b .fresh)) (s .books) (λ k b. refl)
+feeless-block s = feeless-units (λ k b. ending (units (b .lots)) (b .fresh)) (s .books) (λ k b. (refl, refl))
 
 feeless-lapse : (D : ℕ) (s : State) → Feeless (lapse-all D s .receipt)
-feeless-lapse D s = feeless-units (λ k b. ending (units (ended D (b .lots))) 0) (s .books) (λ k b. refl)
+feeless-lapse D s = feeless-units (λ k b. ending (units (ended D (b .lots))) 0) (s .books) (λ k b. (refl, refl))
 
 -- ## Renewals
 

@@ -34,7 +34,7 @@ use Rattle.rules.specs.Bounds.{entered, In-full, Fees-grant-in-full}
 use Rattle.rules.proofs.Receipts.{⊕-assoc, nothing-⊕}
 use Rattle.rules.proofs.Steps.{step-accepts, step-refuses, told, not-both, passed}
 use Rattle.rules.proofs.Closing.{stands}
-use Rattle.rules.proofs.Fees.{Taken, Feeless, No-fresh, taken-then, taken-fee, feeless-units, feeless-nothing, feeless-then, renews-bring-up}
+use Rattle.rules.proofs.Fees.{Taken, Feeless, No-fresh, taken-then, taken-fee, Plain, feeless-from, feeless-units, feeless-nothing, feeless-then, renews-bring-up}
 use Rattle.rules.proofs.Sound.{Sound}
 use Rattle.rules.proofs.SoundRuns.{Ready-account, ready-brought, reached}
 
@@ -57,7 +57,7 @@ One-fee w D t s r = Feeless r ⊎ Starts w D t s r
 
 -- ## Each call
 
-fee-top-up : (w : Calendar) (D n : ℕ) (s : State) → One-fee w D (s .terms) s (wake-if-paid w D (with-balance (s .balance + n) s) .receipt)
+pub fee-top-up : (w : Calendar) (D n : ℕ) (s : State) → One-fee w D (s .terms) s (wake-if-paid w D (with-balance (s .balance + n) s) .receipt)
 fee-top-up w D n s = go (is-blocked s) refl (leb (awaited-fee s) (s .balance + n))
   where
     s⁺ : State
@@ -71,24 +71,22 @@ fee-top-up w D n s = go (is-blocked s) refl (leb (awaited-fee s) (s .balance + n
     go true e false = inl feeless-nothing
     go false e t = inl feeless-nothing
 
-feeless-from : (r : Receipt) → r .fees ≡ 0 → r .units .minutes .granted ≡ 0 → r .units .megabytes .granted ≡ 0 → r .units .messages .granted ≡ 0 → Feeless r
-feeless-from r f a b c t = record { fees = omega arith; grants = elim [ Minutes ↦ omega arith | Megabytes ↦ omega arith | Messages ↦ omega arith ] }
-
-feeless-serve : (v : Option Service) (n : ℕ) (s : State) → Feeless (serve v n s .receipt)
-feeless-serve None n s = feeless-from _ refl refl refl refl
-feeless-serve (Some (counted Minutes)) n s = feeless-from _ refl refl refl refl
-feeless-serve (Some (counted Megabytes)) n s = feeless-from _ refl refl refl refl
-feeless-serve (Some (counted Messages)) n s = feeless-from _ refl refl refl refl
-feeless-serve (Some international) n s = feeless-from _ refl refl refl refl
+-- a use takes no fee and grants nothing
+pub ungranted-serve : (v : Option Service) (n : ℕ) (s : State) (k : UnitKind) → of k (serve v n s .receipt .units) .granted ≡ 0
+ungranted-serve None n s = elim [ Minutes ↦ refl | Megabytes ↦ refl | Messages ↦ refl ]
+ungranted-serve (Some (counted Minutes)) n s = elim [ Minutes ↦ refl | Megabytes ↦ refl | Messages ↦ refl ]
+ungranted-serve (Some (counted Megabytes)) n s = elim [ Minutes ↦ refl | Megabytes ↦ refl | Messages ↦ refl ]
+ungranted-serve (Some (counted Messages)) n s = elim [ Minutes ↦ refl | Megabytes ↦ refl | Messages ↦ refl ]
+ungranted-serve (Some international) n s = elim [ Minutes ↦ refl | Megabytes ↦ refl | Messages ↦ refl ]
 
 -- books wiped or set aside
 module _ (wiped : ℕ → Tally) (wipes : UnitKind → Bool) (e c : ℕ) (s : State) where
-  feeless-wipe-or-keep : ((n : ℕ) → wiped n .granted ≡ 0) → Feeless (wipe-or-keep wiped wipes e c s .receipt)
+  feeless-wipe-or-keep : ((n : ℕ) → Plain (wiped n)) → Feeless (wipe-or-keep wiped wipes e c s .receipt)
   feeless-wipe-or-keep h = feeless-units (λ k b. cond (wipes k) (wiped (left b)) none) (s .books) (λ k b. go (wipes k) b)
     where
-      go : (x : Bool) (b : Allowance) → cond x (wiped (left b)) none .granted ≡ 0
+      go : (x : Bool) (b : Allowance) → Plain (cond x (wiped (left b)) none)
       go true b = h (left b)
-      go false b = refl
+      go false b = (refl, refl)
 
   unfilled-wipe-or-keep : No-fresh (wipe-or-keep wiped wipes e c s .state .books)
   unfilled-wipe-or-keep = elim [ Minutes ↦ go (wipes Minutes) (s .books .minutes) | Megabytes ↦ go (wipes Megabytes) (s .books .megabytes) | Messages ↦ go (wipes Messages) (s .books .messages) ]
@@ -97,7 +95,7 @@ module _ (wiped : ℕ → Tally) (wipes : UnitKind → Bool) (e c : ℕ) (s : St
       go true b = refl
       go false b = refl
 
-fee-restart : (w : Calendar) (D : ℕ) (s : State) → One-fee w D (s .terms) s (restarted w D s .receipt)
+pub fee-restart : (w : Calendar) (D : ℕ) (s : State) → One-fee w D (s .terms) s (restarted w D s .receipt)
 fee-restart w D s = ⊎-elim idle busy (stands s)
   where
     idle : s .status ≡ blocked → One-fee w D (s .terms) s (restarted w D s .receipt)
@@ -112,7 +110,7 @@ fee-restart w D s = ⊎-elim idle busy (stands s)
         inr (record {
           from = o .state;
           before = o .receipt;
-          feeless = feeless-wipe-or-keep wiping-by-restart wipes (d .0) (new-due w D) s (λ n. refl);
+          feeless = feeless-wipe-or-keep wiping-by-restart wipes (d .0) (new-due w D) s (λ n. (refl, refl));
           terms = refl;
           unfilled = λ h. unfilled-wipe-or-keep wiping-by-restart wipes (d .0) (new-due w D) s;
           then-starts = ap (λ (o : Out). o .receipt) p;
@@ -134,14 +132,14 @@ leave-unfilled w D e s = ⊎-elim idle busy (stands s)
         let wipes = switch-wipes-unit e (s .terms) in
         let p : wipe-or-keep wiping-by-switch wipes (d .0) (new-due w D) s ≡ leave-plan w D e s = cc in
         subst (Leaves-unfilled s) p (record {
-          feeless = feeless-wipe-or-keep wiping-by-switch wipes (d .0) (new-due w D) s (λ n. refl);
+          feeless = feeless-wipe-or-keep wiping-by-switch wipes (d .0) (new-due w D) s (λ n. (refl, refl));
           unfilled = λ h. unfilled-wipe-or-keep wiping-by-switch wipes (d .0) (new-due w D) s;
         })
 
 feeless-entry : (e : Entry) (s : State) → Feeless (pay-entry e s .receipt)
-feeless-entry e s = feeless-from _ refl refl refl refl
+feeless-entry e s = feeless-from (pay-entry e s .receipt) refl (refl, refl) (refl, refl) (refl, refl)
 
-starts-switch : (w : Calendar) (D c : ℕ) (t : Terms) (e : Entry) (s : State) → Starts w D t s (switched w D c t e s .receipt)
+pub starts-switch : (w : Calendar) (D c : ℕ) (t : Terms) (e : Entry) (s : State) → Starts w D t s (switched w D c t e s .receipt)
 starts-switch w D c t e s =
     let o₁ = pay-entry e s in
     let o₂ = leave-plan w D e (o₁ .state) in
@@ -179,14 +177,15 @@ module _ (w : Calendar) (D : ℕ) (t : Terms) (s : State) (r : Receipt) (h : Wit
       let p : amount k (x .from .terms) ≡ amount k t = ap (amount k) (x .terms) in
       omega (arith, granted-most (awaited-grant k (x .from)) (of k (x .from .books)), h .amounts k)
 
-  pub granted-once : One-fee w D t s r → (k : UnitKind) → of k (r .units) .granted ≤ most-grant
-  granted-once (inl f) = λ k. omega (arith, f t .grants k)
+  pub granted-once : One-fee w D t s r → (k : UnitKind) → (of k (r .units) .granted ≤ most-grant) × (of k (r .units) .beyond ≡ 0)
+  granted-once (inl f) = λ k. (omega (arith, f t .grants k), f t .unused k)
   granted-once (inr x) =
-      subst (λ (r : Receipt). (k : UnitKind) → of k (r .units) .granted ≤ most-grant) (x .then-starts)
+      let f = x .feeless t in
+      subst (λ (r : Receipt). (k : UnitKind) → (of k (r .units) .granted ≤ most-grant) × (of k (r .units) .beyond ≡ 0)) (x .then-starts)
       (elim [
-        | Minutes ↦ omega (arith, x .feeless t .grants Minutes, start-most x Minutes)
-        | Megabytes ↦ omega (arith, x .feeless t .grants Megabytes, start-most x Megabytes)
-        | Messages ↦ omega (arith, x .feeless t .grants Messages, start-most x Messages)
+        | Minutes ↦ (omega (arith, f .grants Minutes, start-most x Minutes), omega (arith, f .unused Minutes))
+        | Megabytes ↦ (omega (arith, f .grants Megabytes, start-most x Megabytes), omega (arith, f .unused Megabytes))
+        | Messages ↦ (omega (arith, f .grants Messages, start-most x Messages), omega (arith, f .unused Messages))
       ])
 
 -- ## A call after n renewals
@@ -214,9 +213,23 @@ module _ (w : World) (D n : ℕ) (s : State) (r : Receipt) (h : Within-limits (s
         ),
       )
 
+  full-use : (v : Option Service) (k : ℕ) → (m : ℕ) × In-full m (s .terms) None (r ⊕ serve v k s .receipt)
+  full-use v k =
+      let f = renewed .fees in (
+        n,
+        (
+          omega arith,
+          elim [
+            | Minutes ↦ omega (arith, renewed .grants Minutes, ungranted-serve v k s Minutes)
+            | Megabytes ↦ omega (arith, renewed .grants Megabytes, ungranted-serve v k s Megabytes)
+            | Messages ↦ omega (arith, renewed .grants Messages, ungranted-serve v k s Messages)
+          ],
+        ),
+      )
+
   full-call : (c : Call) → All (λ x. x .fails ≡ false) (checks w D c s) → (m : ℕ) × In-full m (s .terms) (entered w c) (r ⊕ perform w D c s .receipt)
   full-call (top-up k) p = full-stay _ (fee-top-up (w .calendar) D (k .0) s)
-  full-call (use-of v k) p = full-stay _ (inl (feeless-serve v k s))
+  full-call (use-of v k) p = full-use v k
   full-call restart p = full-stay _ (fee-restart (w .calendar) D s)
   full-call (switch c) p = go (w .terms (c .0)) (w .entry (s .plan) (c .0)) refl refl
     where

@@ -9,3 +9,4 @@ pub mod Sound
 pub mod SoundRuns
 pub mod Fees
 pub mod FeesOfCalls
+pub mod Columns
