@@ -10,3 +10,4 @@ pub mod SoundRuns
 pub mod Fees
 pub mod FeesOfCalls
 pub mod Columns
+pub mod Examples

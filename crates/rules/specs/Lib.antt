@@ -7,3 +7,4 @@ pub mod Runs
 pub mod Laws
 pub mod Gregorian
 pub mod Bounds
+pub mod Examples

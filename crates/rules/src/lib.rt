@@ -3,6 +3,7 @@ ghost use Rattle.rules.specs.Laws.{Money-closes, Units-close, Day-mark-free, B
 
 pub mod bounds;
 pub mod call;
+pub mod worked;
 
 // The laws of every run of calls from a newly opened account hold.
 pub fn laws_stand() -> u8
