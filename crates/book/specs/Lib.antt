@@ -1,2 +1,4 @@
 pub mod Allowance
+pub mod Days
 pub mod Fault
+pub mod Laws

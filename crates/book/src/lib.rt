@@ -4,3 +4,4 @@ pub mod fault;
 pub mod lot;
 pub mod meaning;
 mod number;
+pub mod theorems;

@@ -1,12 +1,13 @@
 -- The laws of months and due days.
-use mathlib.Core.Path.{_≡_, ap}
-use mathlib.Core.Logic.{_⊎_, inl, inr}
+use mathlib.Core.Path.{_≡_, ap, _∙_}
+use mathlib.Core.Logic.{inl, inr}
 use Prim.Native.Nat.{ℕ, _+_, _-_, _<_, _≤_, min}
 use native.Mathlib.Omega.{arith}
 use Rattle.std.proofs.shelf.Tests.{cases-lt}
-use Rattle.calendar.specs.Gregorian.{month-length, first}
-use Rattle.calendar.specs.Due.{month-of, month-day, due-after, Due-later, Due-within, Due-next-month, Month-of-monotone, Month-of-before, Month-day-least, Month-day-most}
-use Rattle.calendar.proofs.Months.{next, before, length-least, length-most, number-in, month-of-within, month-of-is}
+use Rattle.calendar.specs.Gregorian.{year-of, month-of-year, month-length, first}
+use Rattle.calendar.specs.Dates.{last-day}
+use Rattle.calendar.specs.Due.{month-of, month-day, due-after, last-fee-day, Due-later, Due-within, Due-next-month, Due-dated, Month-of-monotone, Month-of-before, Month-day-least, Month-day-most}
+use Rattle.calendar.proofs.Months.{dated, next, first-monotone, length-least, length-most, number-in, month-of-within, month-of-is}
 
 -- the due day, counted from the first day of the next month
 pub due-first : (d a : ℕ) → due-after d a ≡ first (month-of d + 1) + (min a (month-length (month-of d + 1)) - 1)
@@ -33,17 +34,22 @@ due-next-month d a =
     let l = length-least (month-of d + 1) in
     month-of-is (month-of d + 1) (due-after d a) (omega arith)
 
+pub due-dated : Due-dated
+unfolding month-day
+due-dated d a h =
+    let k = month-of d + 1 in
+    let f = due-first d a in
+    let l = length-least k in
+    let e = due-next-month d a in
+    let g = ap first e in
+    let m : month-day (due-after d a) ≡ min a (month-length k) = omega arith in
+    ap (λ x. dated (year-of x) (month-of-year x) (month-day (due-after d a))) e ∙ ap (dated (year-of k) (month-of-year k)) m
+
 pub month-of-before : Month-of-before
 month-of-before d k h =
     elim (cases-lt (month-of d) k) [
       | inl lt ↦ lt
-      | inr ge ↦
-          absurd (
-          let w = month-of-within d in
-          elim (cases-lt k (month-of d)) [
-            | inl lt ↦ (let b = before k (month-of d) lt in omega arith)
-            | inr le ↦ (let e : k ≡ month-of d = omega arith in omega (arith, ap first e))
-          ])
+      | inr ge ↦ absurd (let w = month-of-within d in omega (arith, first-monotone k (month-of d) ge))
     ]
 
 pub month-of-monotone : Month-of-monotone
@@ -52,9 +58,13 @@ month-of-monotone d e h =
     let n = next (month-of e) in
     omega (arith, month-of-before d (month-of e + 1) (omega arith))
 
--- a day before 1 January 2100 lies in one of the first 1,200 months
-pub month-of-before-2100 : (d : ℕ) → d < 36525 → month-of d < 1200
-month-of-before-2100 d h = month-of-before d 1200 h
+-- a day of the calendar lies in one of its 1,212 months
+pub month-of-calendar : (d : ℕ) → d ≤ last-day → month-of d < 1212
+month-of-calendar d h = month-of-before d 1212 (omega arith)
+
+-- and the calendar has the month after that of a fee
+pub month-of-fee : (d : ℕ) → d ≤ last-fee-day → month-of d + 1 < 1212
+month-of-fee d h = omega (arith, month-of-before d 1211 (omega arith))
 
 pub month-day-least : Month-day-least
 unfolding month-day

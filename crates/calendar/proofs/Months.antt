@@ -1,14 +1,14 @@
 -- Months and their first days, and how years and months of a date meet them.
 use mathlib.Core.Path.{_≡_, refl, ap, subst, _∙_}
 use mathlib.Core.Bool.{Bool, true, false, cond}
-use mathlib.Core.Logic.{_⊎_, inl, inr}
+use mathlib.Core.Logic.{inl, inr}
 use Prim.Native.Nat.{ℕ, zero, suc, _+_, _-_, _*_, _/_, _%_, _<_, _≤_}
 use native.Mathlib.Numerals.{add-one}
 use native.Mathlib.Nat.{div-add-mod', add-zero, add-suc, zero-add, suc-mul, mod-lt, lt-mul-div-succ}
 use native.Mathlib.Omega.{arith}
 use lib.Dec.{eqb, ltb, lit<}
 use lib.Arith.{digits-div, digits-mod}
-use Rattle.std.proofs.shelf.Tests.{ltb-true, ltb-false, cases-order, cond-both}
+use Rattle.std.proofs.shelf.Tests.{ltb-true, ltb-false, cases-lt, cases-order, cond-both}
 use Rattle.calendar.specs.declared.date.Date.{Date}
 use Rattle.calendar.specs.Gregorian.{leap, has-thirty, days-in, year-length, days-of-years, days-of-months, year-of, month-of-year, month-length, first}
 use Rattle.calendar.specs.Dates.{number}
@@ -48,8 +48,16 @@ before i j h =
     let e : suc i + (j - (i + 1)) ≡ j = omega arith in
     omega (arith, far i (j - (i + 1)), ap first e)
 
+-- no later month begins earlier
+pub first-monotone : (i j : ℕ) → i ≤ j → first i ≤ first j
+first-monotone i j h =
+    elim (cases-lt i j) [
+      | inl lt ↦ omega (arith, before i j lt)
+      | inr ge ↦ (let e : i ≡ j = omega arith in omega (arith, ap first e))
+    ]
+
 -- a day lies in one month only
-pub same-month : (i j a b : ℕ) → a < month-length i → b < month-length j → first i + a ≡ first j + b → i ≡ j
+same-month : (i j a b : ℕ) → a < month-length i → b < month-length j → first i + a ≡ first j + b → i ≡ j
 same-month i j a b p q e =
     elim (cases-order i j) [
       | inl h ↦ h

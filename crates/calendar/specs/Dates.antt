@@ -1,7 +1,7 @@
 -- Dates: which ones exist in the calendar, and the number of the day that a date names.
 use mathlib.Core.Path.{_≡_}
 use mathlib.Core.Bool.{Bool, true, _&&_}
-use Prim.Native.Nat.{ℕ, _+_, _-_, _≤_}
+use Prim.Native.Nat.{ℕ, _+_, _-_}
 use lib.Dec.{leb}
 use Rattle.calendar.specs.declared.date.Date.{Date}
 use Rattle.calendar.specs.Gregorian.{days-in, days-before-year, days-before-month}

@@ -1,3 +1,4 @@
 pub mod Gregorian
 pub mod Dates
 pub mod Due
+pub mod Agreement

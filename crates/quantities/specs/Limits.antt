@@ -36,3 +36,7 @@ most-old-units = 2_000_000_000
 -- the last minute that a call can be dated
 abbrev pub last-moment : ℕ
 last-moment = 52_595_999
+
+-- and its day, 31 December 2099
+abbrev pub last-call-day : ℕ
+last-call-day = 36_524

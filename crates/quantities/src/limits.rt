@@ -16,7 +16,7 @@ pub const MOST_ENTRY_PRICE: u64 = 10_000_000;
 pub const MOST_BALANCE: u64 = 1_000_000_000;
 
 // A top-up is 1 to this many sums.
-pub const MOST_TOP_UP: u32 = 10_000_000;
+pub const MOST_TOP_UP: u64 = 10_000_000;
 
 // A use is 1 to this many units.
 pub const MOST_USE: u32 = 1_000_000;

@@ -1,5 +1,6 @@
 // Money: whole sums (UZS), and the two sums that have limits of their own.
-ghost use Prim.Native.Nat.{_≤_};
+ghost use mathlib.Core.Path.{_≡_};
+ghost use Prim.Native.Nat.{_+_, _-_, _^_, _≤_, min};
 ghost use Rattle.quantities.specs.Limits.{most-fee, most-balance};
 
 #[derive(Clone, Copy, PartialEq, Eq, PartialOrd, Ord, Debug)]
@@ -18,4 +19,13 @@ pub struct Fee {
 pub struct Balance {
     pub sums: Sums,
     ghost most: { sums .0 ≤ most-balance },
+}
+
+impl Sums {
+    // The sum of two, or the largest number that sums can be, whichever is less.
+    pub fn plus(self, other: Sums) -> Sums
+        ensures { λ r. ⌜ r .0 ≡ min (self .0 + other .0) (2 ^ 64 - 1) ⌝ }
+    {
+        Sums(self.0.saturating_add(other.0))
+    }
 }

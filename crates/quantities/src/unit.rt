@@ -1,5 +1,6 @@
 // The three units that allowances are counted in.
 ghost use mathlib.Core.Path.{_≡_};
+ghost use Prim.Native.Nat.{_+_, _-_, _^_, min};
 use std::marker::PhantomData;
 
 // One of the three units.
@@ -72,5 +73,12 @@ impl<K> Total<K> {
             number,
             of: PhantomData,
         }
+    }
+
+    // The sum of two totals, or the largest number that a total can be, whichever is less.
+    pub fn plus(self, other: Total<K>) -> Self
+        ensures { λ r. ⌜ r .number ≡ min (self .number + other .number) (2 ^ 64 - 1) ⌝ }
+    {
+        Total::new(self.number.saturating_add(other.number))
     }
 }

@@ -11,7 +11,7 @@ use Rattle.std.specs.declared.option.Option.the-variants.{Some, None}
 use Rattle.std.specs.shelf.Lists.{All}
 use Rattle.std.proofs.shelf.Tests.{ltb-false}
 use Rattle.std.proofs.shelf.Ways.{tells}
-use Rattle.quantities.specs.Limits.{most-grant, most-old-units, most-balance, most-use, most-top-up, last-moment}
+use Rattle.quantities.specs.Limits.{most-grant, most-old-units, most-balance, most-use, most-top-up, last-moment, last-call-day}
 use Rattle.quantities.specs.Units.{of, each, every, only}
 use Rattle.quantities.specs.declared.unit.PerUnit.{PerUnit}
 use Rattle.quantities.specs.declared.unit.UnitKind.{UnitKind}
@@ -49,12 +49,12 @@ most-left = most-grant + most-old-units
 abbrev Lends : ℕ → Receipt → Type 0
 Lends g r = (k : UnitKind) → (of k (r .units) .granted ≤ g) × (of k (r .units) .beyond ≤ most-use)
 
-renewals : (w : Calendar) → Hundred-years w → (D : ℕ) → D < 36525 → (s : State) (o : Out) (r : Renews w D s o) → r .count ≤ 1200
+renewals : (w : Calendar) → Hundred-years w → (D : ℕ) → D ≤ last-call-day → (s : State) (o : Out) (r : Renews w D s o) → r .count ≤ 1200
 renewals w y D l s o r =
     let m = y D l in
     ⊎-elim (λ e. let z = r .idle e in omega arith) (λ x. let q = r .months (x .0) (x .1) in omega arith) (stands s)
 
-bring-up-lends : (w : Calendar) → Hundred-years w → (D : ℕ) → D < 36525 → (s : State) → Within-limits (s .terms) → Lends (1200 * most-grant) (bring-up w D s .receipt)
+bring-up-lends : (w : Calendar) → Hundred-years w → (D : ℕ) → D ≤ last-call-day → (s : State) → Within-limits (s .terms) → Lends (1200 * most-grant) (bring-up w D s .receipt)
 bring-up-lends w y D l s h k =
     let r = renews-bring-up w D s h in
     let few = renewals w y D l s (bring-up w D s) r in
@@ -142,13 +142,13 @@ columns-from n b bs o p q h c l =
       units = λ k. let x = c .units k in let y = l k in let z = h k in omega arith;
     }
 
-pub bring-up-columns : (w : Calendar) → Hundred-years w → (D : ℕ) → D < 36525 → (s : State) → Within-limits (s .terms) → s .balance ≤ most-balance →
+pub bring-up-columns : (w : Calendar) → Hundred-years w → (D : ℕ) → D ≤ last-call-day → (s : State) → Within-limits (s .terms) → s .balance ≤ most-balance →
     ((k : UnitKind) → left (of k (s .books)) ≤ most-left) → Columns-within most-column (bring-up w D s .receipt)
 bring-up-columns w y D l s h b books =
     columns-from 0 (s .balance) (s .books) (bring-up w D s) (omega arith) b books (closes-bring-up w D s)
     (λ k. let x = bring-up-lends w y D l s h k in omega arith)
 
-pub settle-columns : (w : Calendar) → Hundred-years w → (D : ℕ) → D < 36525 → (s : State) → Within-limits (s .terms) → s .balance ≤ most-balance →
+pub settle-columns : (w : Calendar) → Hundred-years w → (D : ℕ) → D ≤ last-call-day → (s : State) → Within-limits (s .terms) → s .balance ≤ most-balance →
     ((k : UnitKind) → left (of k (s .books)) ≤ most-left) → Columns-within most-column (settle w (suc D) D s .receipt)
 settle-columns w y D l s h b books =
     let o = settle w (suc D) D s in
@@ -176,7 +176,7 @@ step-columns w y a e h b books = ⊎-elim accept refuse (told w a e)
         let up = brought w (e .moment .0) a in
         let all = passed (all-checks w a e) z in
         let early = ltb-false last-moment (e .moment .0) (all .0) in
-        let l : D < 36525 = omega arith in
+        let l : D ≤ last-call-day = omega arith in
         let r = renews-bring-up (w .calendar) D (a .state) h in
         let lends = perform-lends w D (e .call) (up .state) (subst Within-limits (sym (r .terms)) h) (all .1 .1) in
         let p : Closes (paid-in (e .call)) (a .state .balance) (a .state .books) (out-of (accepted w a e)) =

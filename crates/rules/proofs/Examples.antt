@@ -51,7 +51,7 @@ lawful = record {
     leads true false false h = h
     leads false false false h = h
 
-worked : Worked (record { calendar = gregorian; terms = plans; entry = entries; capacity = 31; lawful = lawful; roomy = omega arith })
+worked : Worked (record { calendar = gregorian; terms = plans; entry = entries; capacity = 31; lawful = lawful })
 unfolding month-of month-day due-after
 worked = record {
   late-status = refl;
@@ -64,4 +64,4 @@ worked = record {
 }
 
 pub examples : Examples
-examples = (lawful, omega arith, worked)
+examples = (lawful, worked)

@@ -4,6 +4,7 @@ pub mod Advance
 pub mod Steps
 pub mod Marks
 pub mod Closing
+pub mod Ahead
 pub mod Held
 pub mod Sound
 pub mod SoundRuns

@@ -4,7 +4,7 @@ use mathlib.Core.List.{List}
 use Prim.Native.Nat.{ℕ, _+_, _*_, _≤_, _<_}
 use Rattle.std.specs.declared.option.Option.{Option}
 use Rattle.std.specs.declared.option.Option.the-variants.{Some, None}
-use Rattle.quantities.specs.Limits.{most-balance}
+use Rattle.quantities.specs.Limits.{most-balance, last-call-day}
 use Rattle.quantities.specs.Units.{of}
 use Rattle.quantities.specs.declared.unit.UnitKind.{UnitKind}
 use Rattle.quantities.specs.declared.time.Day.{Day}
@@ -100,9 +100,9 @@ pub record Columns-within (n : ℕ) (r : Receipt) : Type 0 where
   pub switch-charges : r .switch-charges ≤ n
   pub units : (k : UnitKind) → Tally-within n (of k (r .units))
 
--- The days that calls can be dated, those before day 36,525, lie in 1,200 months: 100 years.
+-- The days that calls can be dated lie in 1,200 months: 100 years.
 abbrev pub Hundred-years : Calendar → Type 0
-Hundred-years w = (d : ℕ) → d < 36525 → w .month-of d < 1200
+Hundred-years w = (d : ℕ) → d ≤ last-call-day → w .month-of d < 1200
 
 -- In such a calendar every column of every call's receipt fits.
 abbrev pub Columns-bounded : Type 0

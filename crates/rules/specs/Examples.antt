@@ -2,7 +2,7 @@
 use mathlib.Core.Path.{_≡_}
 use mathlib.Core.Bool.{true, false, cond, _&&_}
 use mathlib.Core.List.{List, [], _∷_}
-use Prim.Native.Nat.{ℕ, _*_, _≤_}
+use Prim.Native.Nat.{ℕ, _*_}
 use lib.Dec.{eqb}
 use Rattle.std.specs.declared.option.Option.{Option}
 use Rattle.std.specs.declared.option.Option.the-variants.{Some, None}
@@ -68,7 +68,4 @@ pub record Worked (w : World) : Type 0 where
 
 -- The line is lawful, and with it, the Gregorian calendar and books of 31 lots the examples hold.
 abbrev pub Examples : Type 0
-Examples =
-    (lawful : Lawful plans entries)
-    × (roomy : 1 ≤ 31)
-    × Worked (record { calendar = gregorian; terms = plans; entry = entries; capacity = 31; lawful = lawful; roomy = roomy })
+Examples = (lawful : Lawful plans entries) × Worked (record { calendar = gregorian; terms = plans; entry = entries; capacity = 31; lawful = lawful })

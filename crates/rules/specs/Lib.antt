@@ -6,5 +6,6 @@ pub mod Checks
 pub mod Runs
 pub mod Laws
 pub mod Gregorian
+pub mod Ahead
 pub mod Bounds
 pub mod Examples

@@ -33,7 +33,6 @@ pub record World : Type 0 where
   pub entry : ℕ → ℕ → Option Entry
   pub capacity : ℕ
   pub lawful : Lawful terms entry
-  pub roomy : 1 ≤ capacity
 
 -- All of an account but the moment of its latest accepted call: the plan and a copy of its terms, the balance, the
 -- status, the last fee day and the anchor (none before the first fee), whether the option is on, and the three books.

@@ -1,3 +1,5 @@
+pub mod LawfulTables
 pub mod LawfulTogether
+pub mod Tables
 pub mod Terms
 pub mod Together

@@ -1,5 +1,6 @@
 -- The bounds, each from its proof.
-use Rattle.calendar.proofs.Due.{month-of-before-2100}
+use native.Mathlib.Omega.{arith}
+use Rattle.calendar.proofs.Due.{month-of-before}
 use Rattle.rules.proofs.SoundRuns.{balance-bounded, blocked-empty, due-day-ahead}
 use Rattle.rules.proofs.FeesOfCalls.{fees-grant-in-full}
 use Rattle.rules.proofs.Columns.{columns-bounded}
@@ -12,5 +13,5 @@ returns c = record {
   due = due-day-ahead;
   grants = fees-grant-in-full;
   columns = columns-bounded;
-  years = month-of-before-2100;
+  years = λ d h. month-of-before d 1200 (omega arith);
 }

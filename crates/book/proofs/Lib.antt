@@ -1,0 +1,4 @@
+pub mod Days
+pub mod Gathering
+pub mod Laws
+pub mod Lots

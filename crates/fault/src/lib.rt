@@ -1,0 +1,2 @@
+// Refusals: their cases, numbers and layers.
+pub mod account;

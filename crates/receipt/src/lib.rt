@@ -1,0 +1,3 @@
+// The receipt that a call fills.
+pub mod receipt;
+pub mod tally;
