@@ -1,41 +1,38 @@
 -- No column of a receipt passes what 32 bits hold, for any account within the limits.
-use mathlib.Core.Path.{_≡_, refl, ap, subst, sym, _∙_}
-use mathlib.Core.Bool.{Bool, true, false, cond, not, _&&_}
-use mathlib.Core.Logic.{_⊎_, inl, inr, ⊎-elim}
-use Prim.Native.Nat.{ℕ, suc, _+_, _-_, _*_, _/_, _≤_, _<_}
+use mathlib.Core.Path.{_≡_, refl, subst, sym}
+use mathlib.Core.Bool.{false}
+use mathlib.Core.Logic.{inl, inr, ⊎-elim}
+use Prim.Native.Nat.{ℕ, suc, _+_, _*_, _≤_}
 use native.Mathlib.Omega.{arith}
 use native.Mathlib.Nat.{mul-le-mul}
-use lib.Dec.{leb, ltb}
 use Rattle.std.specs.declared.option.Option.{Option}
 use Rattle.std.specs.declared.option.Option.the-variants.{Some, None}
 use Rattle.std.specs.shelf.Lists.{All}
 use Rattle.std.proofs.shelf.Tests.{ltb-false}
 use Rattle.std.proofs.shelf.Ways.{tells}
 use Rattle.quantities.specs.Limits.{most-grant, most-old-units, most-balance, most-use, most-top-up, last-moment, last-call-day}
-use Rattle.quantities.specs.Units.{of, each, every, only}
+use Rattle.quantities.specs.Units.{of}
 use Rattle.quantities.specs.declared.unit.PerUnit.{PerUnit}
 use Rattle.quantities.specs.declared.unit.UnitKind.{UnitKind}
 use Rattle.quantities.specs.declared.unit.UnitKind.the-variants.{Minutes, Megabytes, Messages}
-use Rattle.quantities.specs.declared.time.Day.{Day}
 use Rattle.tariff.specs.Terms.{Terms, Entry, Within-limits, amount}
 use Rattle.book.specs.Allowance.{Allowance, left}
-use Rattle.rules.specs.declared.call.Status.the-variants.{Blocked as blocked, Active as active}
 use Rattle.rules.specs.declared.call.Service.{Service}
 use Rattle.rules.specs.declared.call.Service.the-variants.{Counted as counted, International as international}
 use Rattle.rules.specs.declared.call.Call.{Call}
 use Rattle.rules.specs.declared.call.Call.the-variants.{TopUp as top-up, Use as use-of, Restart as restart, Switch as switch, MegabyteOption as option, DayMark as day-mark}
 use Rattle.rules.specs.declared.call.Event.{Event}
-use Rattle.rules.specs.Receipt.{Tally, Receipt, _⊞_, _⊕_, nothing}
-use Rattle.rules.specs.State.{Calendar, World, State, Account, Out, money-charged, units-gone, same, then}
+use Rattle.rules.specs.Receipt.{Receipt, _⊕_, nothing}
+use Rattle.rules.specs.State.{Calendar, World, State, Account, Out, same}
 use Rattle.rules.specs.DueDays.{settle, lapse-all, bring-up}
 use Rattle.rules.specs.Calls.{serve, perform, switch-to, switched}
 use Rattle.rules.specs.Checks.{Refusal, outside, checks, all-checks, day-of, brought, refusal}
 use Rattle.rules.specs.Runs.{Answer, accepted, step, run, opened}
 use Rattle.rules.specs.Laws.{paid-in, paid-by}
-use Rattle.rules.specs.Bounds.{most-column, Tally-within, Columns-within, Hundred-years, Columns-bounded}
-use Rattle.rules.proofs.Closing.{Flow, Closes, closes-bring-up, out-of, closes-step, stands}
+use Rattle.rules.specs.Bounds.{most-column, Columns-within, Hundred-years, Columns-bounded}
+use Rattle.rules.proofs.Closing.{Closes, closes-bring-up, out-of, closes-step, stands}
 use Rattle.rules.proofs.Steps.{step-accepts, step-refuses, told, passed}
-use Rattle.rules.proofs.Fees.{Taken, Renews, renews-bring-up, feeless-nothing}
+use Rattle.rules.proofs.Fees.{Renews, renews-bring-up, feeless-nothing}
 use Rattle.rules.proofs.FeesOfCalls.{One-fee, granted-once, fee-top-up, ungranted-serve, fee-restart, starts-switch}
 use Rattle.rules.proofs.SoundRuns.{reached}
 

@@ -9,7 +9,6 @@ use Rattle.std.specs.declared.option.Option.{Option}
 use Rattle.std.specs.declared.option.Option.the-variants.{Some, None}
 use Rattle.std.proofs.shelf.Ways.{tells}
 use Rattle.quantities.specs.Limits.{most-fee, most-grant, most-entry-price}
-use Rattle.quantities.specs.declared.unit.UnitKind.{UnitKind}
 use Rattle.quantities.specs.declared.unit.UnitKind.the-variants.{Minutes, Megabytes, Messages}
 use Rattle.calendar.specs.Due.{month-of, month-day, due-after}
 use Rattle.tariff.specs.Terms.{Terms, Entry, Within-limits, Lawful}

@@ -1,20 +1,20 @@
 -- How many fees a call takes, and that each grants in full.
-use mathlib.Core.Path.{_≡_, refl, ap, subst, sym, _∙_}
-use mathlib.Core.Bool.{Bool, true, false, cond, _&&_}
-use mathlib.Core.Logic.{_⊎_, inl, inr, ⊎-elim}
-use Prim.Native.Nat.{ℕ, zero, suc, _+_, _-_, _*_, _≤_, _<_}
+use mathlib.Core.Path.{_≡_, refl, ap, subst, sym}
+use mathlib.Core.Bool.{Bool, true, false, cond}
+use mathlib.Core.Logic.{inl, inr}
+use Prim.Native.Nat.{ℕ, zero, suc, _+_, _-_, _*_, _≤_}
 use native.Mathlib.Omega.{arith}
 use native.Mathlib.Nat.{add-mul, add-zero, zero-add}
-use lib.Dec.{leb, eqb}
+use lib.Dec.{leb}
 use Rattle.std.proofs.shelf.Ways.{tells}
 use Rattle.quantities.specs.Limits.{most-grant}
-use Rattle.quantities.specs.Units.{of, each, every}
+use Rattle.quantities.specs.Units.{of, each}
 use Rattle.quantities.specs.declared.unit.PerUnit.{PerUnit}
 use Rattle.quantities.specs.declared.unit.UnitKind.{UnitKind}
 use Rattle.quantities.specs.declared.unit.UnitKind.the-variants.{Minutes, Megabytes, Messages}
 use Rattle.quantities.specs.declared.time.Day.{Day}
 use Rattle.tariff.specs.Terms.{Terms, Within-limits, amount, carries-unit}
-use Rattle.book.specs.Allowance.{Allowance, units, left, ended}
+use Rattle.book.specs.Allowance.{Allowance, units, ended}
 use Rattle.rules.specs.declared.call.Status.the-variants.{Blocked as blocked, Active as active}
 use Rattle.rules.specs.Receipt.{Tally, Receipt, ending, _⊕_, nothing, units-only}
 use Rattle.rules.specs.State.{Calendar, State, Out, awaited-fee, awaited-grant, anchor-day, same, then}

@@ -1,32 +1,30 @@
 -- Each call takes at most one fee beside renewals, and in a run each fee grants in full.
 use mathlib.Core.Path.{_≡_, refl, ap, subst, sym, _∙_}
-use mathlib.Core.Bool.{Bool, true, false, cond, not, _&&_}
+use mathlib.Core.Bool.{Bool, true, false, cond, _&&_}
 use mathlib.Core.Logic.{_⊎_, inl, inr, ⊎-elim}
-use mathlib.Core.List.{List}
-use Prim.Native.Nat.{ℕ, _+_, _-_, _*_, _≤_}
+use Prim.Native.Nat.{ℕ, _+_, _≤_}
 use native.Mathlib.Omega.{arith}
 use lib.Dec.{leb}
-use Rattle.std.specs.Options.{isSome}
 use Rattle.std.specs.declared.option.Option.{Option}
 use Rattle.std.specs.declared.option.Option.the-variants.{Some, None}
 use Rattle.std.specs.shelf.Lists.{All}
 use Rattle.std.proofs.shelf.Ways.{tells}
 use Rattle.quantities.specs.Limits.{most-grant}
-use Rattle.quantities.specs.Units.{of, each, only}
+use Rattle.quantities.specs.Units.{of}
 use Rattle.quantities.specs.declared.unit.UnitKind.{UnitKind}
 use Rattle.quantities.specs.declared.unit.UnitKind.the-variants.{Minutes, Megabytes, Messages}
 use Rattle.quantities.specs.declared.time.Day.{Day}
 use Rattle.tariff.specs.Terms.{Terms, Entry, Within-limits, amount, restart-wipes-unit}
-use Rattle.book.specs.Allowance.{Allowance, left, empty, aside, draw-answer}
+use Rattle.book.specs.Allowance.{Allowance, left, empty, aside}
 use Rattle.rules.specs.declared.call.Status.the-variants.{Blocked as blocked, Active as active}
 use Rattle.rules.specs.declared.call.Service.{Service}
 use Rattle.rules.specs.declared.call.Service.the-variants.{Counted as counted, International as international}
 use Rattle.rules.specs.declared.call.Call.{Call}
 use Rattle.rules.specs.declared.call.Call.the-variants.{TopUp as top-up, Use as use-of, Restart as restart, Switch as switch, MegabyteOption as option, DayMark as day-mark}
 use Rattle.rules.specs.declared.call.Event.{Event}
-use Rattle.rules.specs.Receipt.{Tally, Receipt, none, used, wiping-by-restart, wiping-by-switch, _⊕_, nothing}
+use Rattle.rules.specs.Receipt.{Tally, Receipt, none, wiping-by-restart, wiping-by-switch, _⊕_, nothing}
 use Rattle.rules.specs.State.{Calendar, World, State, Account, Out, awaited-fee, awaited-grant, same, then, with-balance, with-plan, with-anchor}
-use Rattle.rules.specs.DueDays.{granted, start-on, bring-up}
+use Rattle.rules.specs.DueDays.{granted, start-on}
 use Rattle.rules.specs.Calls.{is-blocked, wake-if-paid, beyond, serve, new-due, wipe-or-keep, restarted, switch-wipes-unit, leave-plan, pay-entry, switched, switch-to, perform}
 use Rattle.rules.specs.Checks.{Refusal, checks, all-checks, day-of, brought, refusal}
 use Rattle.rules.specs.Runs.{Answer, step, run, opened}
@@ -35,7 +33,6 @@ use Rattle.rules.proofs.Receipts.{⊕-assoc, nothing-⊕}
 use Rattle.rules.proofs.Steps.{step-accepts, step-refuses, told, not-both, passed}
 use Rattle.rules.proofs.Closing.{stands}
 use Rattle.rules.proofs.Fees.{Taken, Feeless, No-fresh, taken-then, taken-fee, Plain, feeless-from, feeless-units, feeless-nothing, feeless-then, renews-bring-up}
-use Rattle.rules.proofs.Sound.{Sound}
 use Rattle.rules.proofs.SoundRuns.{Ready-account, ready-brought, reached}
 
 -- a blocked account has no fresh amount

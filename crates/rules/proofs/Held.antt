@@ -1,28 +1,22 @@
 -- What is left in a book stays within its limits, whatever is done to it.
-use mathlib.Core.Path.{_≡_, refl}
+use mathlib.Core.Path.{_≡_}
 use mathlib.Core.Bool.{Bool, true, false, cond}
-use mathlib.Core.List.{List}
-use Prim.Native.Nat.{ℕ, _+_, _-_, _≤_}
+use Prim.Native.Nat.{ℕ, _≤_}
 use native.Mathlib.Omega.{arith}
-use lib.Dec.{leb, ltb, eqb}
-use lib.ListN.{length}
 use Rattle.std.specs.declared.option.Option.{Option}
 use Rattle.std.specs.declared.option.Option.the-variants.{Some, None}
 use Rattle.std.specs.declared.result.Result.the-variants.{Ok, Err}
 use Rattle.std.proofs.shelf.Ways.{tells}
 use Rattle.quantities.specs.Limits.{most-grant, most-old-units}
 use Rattle.book.specs.declared.fault.BookFault.{BookFault}
-use Rattle.book.specs.Allowance.{Allowance, Kept, units, left, empty, lapsed, drawn, aside, aside-answer}
-use Rattle.rules.specs.DueDays.{refilled, granted, closed}
+use Rattle.book.specs.Allowance.{Allowance, units, empty, lapsed, drawn, aside, aside-answer}
+use Rattle.rules.specs.DueDays.{refilled, closed}
 use Rattle.rules.proofs.Books.{lapse-parts, lot-sum, undrawn-sum}
 
 -- the fresh amount and the old units within their limits
 pub record Held (b : Allowance) : Type 0 where
   pub fresh : b .fresh ≤ most-grant
   pub old : units (b .lots) ≤ most-old-units
-
-pub held-kept : (C : ℕ) (b : Allowance) → Kept C b → Held b
-held-kept C b h = record { fresh = h .fresh; old = h .sum }
 
 pub held-empty : Held empty
 held-empty = omega arith

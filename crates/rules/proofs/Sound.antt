@@ -1,31 +1,23 @@
 -- What each step of an account keeps: limits, an empty book where it is blocked, and a due day by the anchor.
 use mathlib.Core.Path.{_≡_, refl, ap, subst, sym, _∙_}
-use mathlib.Core.Bool.{Bool, true, false, cond, not, _&&_}
-use mathlib.Core.Logic.{_⊎_, inl, inr, ⊎-elim}
-use mathlib.Core.List.{List, [], _∷_}
-use Prim.Native.Nat.{ℕ, zero, suc, _+_, _-_, _≤_, _<_}
+use mathlib.Core.Bool.{Bool, true, false, cond}
+use mathlib.Core.Logic.{inl, inr}
+use Prim.Native.Nat.{ℕ, zero, suc, _≤_, _<_}
 use native.Mathlib.Omega.{arith}
-use lib.Dec.{leb, ltb}
-use Rattle.std.specs.Options.{isSome}
-use Rattle.std.specs.declared.option.Option.{Option}
-use Rattle.std.specs.declared.option.Option.the-variants.{Some, None}
-use Rattle.std.specs.shelf.Lists.{All}
-use Rattle.std.proofs.shelf.Tests.{leb-true, leb-false, ltb-false}
+use lib.Dec.{leb}
+use Rattle.std.specs.declared.option.Option.the-variants.{Some}
+use Rattle.std.proofs.shelf.Tests.{leb-false}
 use Rattle.quantities.specs.Limits.{most-balance}
-use Rattle.quantities.specs.Units.{of, each, every, at}
+use Rattle.quantities.specs.Units.{of, each, every}
 use Rattle.quantities.specs.declared.unit.PerUnit.{PerUnit}
 use Rattle.quantities.specs.declared.unit.UnitKind.{UnitKind}
 use Rattle.quantities.specs.declared.unit.UnitKind.the-variants.{Minutes, Megabytes, Messages}
 use Rattle.quantities.specs.declared.time.Day.{Day}
 use Rattle.calendar.specs.declared.anchor.Anchor.{Anchor}
-use Rattle.tariff.specs.Terms.{Terms, Entry, Within-limits, carries-unit, restart-wipes-unit}
-use Rattle.book.specs.declared.fault.BookFault.{BookFault}
-use Rattle.book.specs.Allowance.{Allowance, empty, lapsed, drawn, aside}
-use Rattle.rules.specs.declared.call.Status.{Status}
+use Rattle.tariff.specs.Terms.{Within-limits, carries-unit}
+use Rattle.book.specs.Allowance.{Allowance, empty, lapsed}
 use Rattle.rules.specs.declared.call.Status.the-variants.{Blocked as blocked, Active as active}
-use Rattle.rules.specs.declared.call.Service.{Service}
-use Rattle.rules.specs.declared.call.Service.the-variants.{Counted as counted, International as international}
-use Rattle.rules.specs.State.{Calendar, World, State, Out, awaited-fee, awaited-grant, anchor-day, with-balance, with-books, with-anchor}
+use Rattle.rules.specs.State.{Calendar, State, Out, awaited-fee, awaited-grant, anchor-day, with-anchor}
 use Rattle.rules.specs.DueDays.{refilled, next-due, take-fee, start-on, closed, close-month, renew, block, handle, settle, lapse-all, bring-up}
 use Rattle.rules.specs.Bounds.{Due-by, Anchor-within}
 use Rattle.rules.proofs.Advance.{Rests, Due, Enough, look, settle-rests, settle-due, enough-next}
@@ -41,9 +33,6 @@ pub held-each : (f : UnitKind → Allowance → Allowance) (bs : PerUnit Allowan
 held-each f bs h Minutes = h Minutes
 held-each f bs h Megabytes = h Megabytes
 held-each f bs h Messages = h Messages
-
-abbrev All-empty : PerUnit Allowance → Type 0
-All-empty bs = (k : UnitKind) → of k bs ≡ empty
 
 -- ## An account within the limits, and one whose status fits the rest
 

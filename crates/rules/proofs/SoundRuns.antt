@@ -1,26 +1,25 @@
 -- Every call, and so every run, keeps an account sound, with its due day after the day of its latest call.
 use mathlib.Core.Path.{_≡_, refl, ap, subst, sym, _∙_}
-use mathlib.Core.Bool.{Bool, true, false, cond, not, _&&_}
-use mathlib.Core.Logic.{_⊎_, inl, inr, ⊎-elim}
+use mathlib.Core.Bool.{Bool, true, false, cond, _&&_}
+use mathlib.Core.Logic.{⊎-elim}
 use mathlib.Core.List.{List, [], _∷_}
 use Prim.Native.Nat.{ℕ, _+_, _-_, _≤_, _<_}
 use native.Mathlib.Omega.{arith}
-use lib.Dec.{leb, ltb}
+use lib.Dec.{leb}
 use Rattle.std.specs.Options.{isSome}
 use Rattle.std.specs.declared.option.Option.{Option}
 use Rattle.std.specs.declared.option.Option.the-variants.{Some, None}
 use Rattle.std.specs.shelf.Lists.{All}
 use Rattle.std.proofs.shelf.Tests.{leb-false, ltb-false, and-cases}
 use Rattle.quantities.specs.Limits.{most-balance}
-use Rattle.quantities.specs.Units.{of, every}
+use Rattle.quantities.specs.Units.{of}
 use Rattle.quantities.specs.declared.unit.PerUnit.{PerUnit}
 use Rattle.quantities.specs.declared.unit.UnitKind.{UnitKind}
 use Rattle.quantities.specs.declared.unit.UnitKind.the-variants.{Minutes, Megabytes, Messages}
 use Rattle.quantities.specs.declared.time.Day.{Day}
 use Rattle.tariff.specs.Terms.{Terms, Entry, Within-limits, restart-wipes-unit}
 use Rattle.book.specs.declared.fault.BookFault.{BookFault}
-use Rattle.book.specs.Allowance.{Allowance, empty, drawn, aside}
-use Rattle.rules.specs.declared.call.Status.{Status}
+use Rattle.book.specs.Allowance.{Allowance, empty, aside}
 use Rattle.rules.specs.declared.call.Status.the-variants.{Blocked as blocked, Active as active}
 use Rattle.rules.specs.declared.call.Service.{Service}
 use Rattle.rules.specs.declared.call.Service.the-variants.{Counted as counted, International as international}
@@ -28,16 +27,16 @@ use Rattle.rules.specs.declared.call.Call.{Call}
 use Rattle.rules.specs.declared.call.Call.the-variants.{TopUp as top-up, Use as use-of, Restart as restart, Switch as switch, MegabyteOption as option, DayMark as day-mark}
 use Rattle.rules.specs.declared.call.Event.{Event}
 use Rattle.rules.specs.Receipt.{Tally, wiping-by-restart, wiping-by-switch}
-use Rattle.rules.specs.State.{Calendar, World, State, Account, Out, awaited-fee, same, then, with-balance, with-plan, with-option}
-use Rattle.rules.specs.DueDays.{start-on, bring-up}
-use Rattle.rules.specs.Calls.{is-blocked, wake-if-paid, charge, used-books, serve, new-due, wipe-or-keep, restarted, switch-wipes-unit, leave-plan, pay-entry, switched, switch-to, perform}
+use Rattle.rules.specs.State.{Calendar, World, State, Account, Out, awaited-fee, same, then, with-balance, with-plan}
+use Rattle.rules.specs.DueDays.{start-on}
+use Rattle.rules.specs.Calls.{is-blocked, wake-if-paid, used-books, serve, new-due, wipe-or-keep, restarted, switch-wipes-unit, leave-plan, pay-entry, switched, switch-to, perform}
 use Rattle.rules.specs.Checks.{Concern, Refusal, aside-refusal, concern-of, first-concern, refusing, entry-refusing, checks, all-checks, day-of, brought, refusal}
-use Rattle.rules.specs.Runs.{Answer, accepted, step, run, opened}
-use Rattle.rules.specs.Bounds.{Due-by, Anchor-within, Balance-bounded, Blocked-empty, Due-day-ahead}
+use Rattle.rules.specs.Runs.{Answer, step, run, opened}
+use Rattle.rules.specs.Bounds.{Balance-bounded, Blocked-empty, Due-day-ahead}
 use Rattle.rules.proofs.Advance.{Rests}
 use Rattle.rules.proofs.Steps.{step-accepts, step-refuses, told, passed}
 use Rattle.rules.proofs.Closing.{stands}
-use Rattle.rules.proofs.Held.{Held, held-empty, held-draw, held-aside}
+use Rattle.rules.proofs.Held.{held-empty, held-draw, held-aside}
 use Rattle.rules.proofs.Sound.{All-held, held-each, Fit, Sound, never, sound-start, sound-bring-up, rests-after}
 
 -- an account that is sound, and has no due day at or before the day D

@@ -1,7 +1,7 @@
 -- Worked examples: a line of two small plans, and what some calls on the edge of a rule come to.
 use mathlib.Core.Path.{_≡_}
 use mathlib.Core.Bool.{true, false, cond, _&&_}
-use mathlib.Core.List.{List, [], _∷_}
+use mathlib.Core.List.{[], _∷_}
 use Prim.Native.Nat.{ℕ, _*_}
 use lib.Dec.{eqb}
 use Rattle.std.specs.declared.option.Option.{Option}
@@ -9,7 +9,6 @@ use Rattle.std.specs.declared.option.Option.the-variants.{Some, None}
 use Rattle.quantities.specs.Units.{every}
 use Rattle.tariff.specs.Terms.{UnitTerms, Terms, Entry, Lawful}
 use Rattle.tariff.specs.declared.terms.Fate.the-variants.{Kept}
-use Rattle.book.specs.Allowance.{Allowance}
 use Rattle.rules.specs.declared.call.Status.the-variants.{Active as active}
 use Rattle.rules.specs.declared.call.Call.{Call}
 use Rattle.rules.specs.declared.call.Call.the-variants.{TopUp as top-up, Restart as restart, Switch as switch}
