@@ -3,6 +3,7 @@ pub mod Books
 pub mod Advance
 pub mod Steps
 pub mod Marks
+pub mod Flow
 pub mod Closing
 pub mod Ahead
 pub mod Held
