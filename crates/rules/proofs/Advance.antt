@@ -65,7 +65,7 @@ settle-due w D s d e h n = let f = le-leb (d .0) D h in cc
 unfoldable pub Enough : ℕ → ℕ → State → Type 0
 Enough n D s = (d : Day) → s .status ≡ active d → D < d .0 + n
 
-enough-next : (w : Calendar) (n D : ℕ) (s : State) (d : Day) → s .status ≡ active d → Enough (suc n) D s → Enough n D (handle w (d .0) s .state)
+pub enough-next : (w : Calendar) (n D : ℕ) (s : State) (d : Day) → s .status ≡ active d → Enough (suc n) D s → Enough n D (handle w (d .0) s .state)
 unfolding Enough
 enough-next w n D s d e h d′ e′ = omega (arith, h d e, handle-later w (d .0) s d′ e′)
 

@@ -26,7 +26,7 @@ lapse-twice x y h ls =
 pub lot-sum : (n e : ℕ) → units (as-lot n e) ≡ n
 lot-sum n e = grind (arith, tells)
 
-undrawn-sum : (n : ℕ) (ls : List Lot) → units (undrawn n ls) ≡ units ls - n
+pub undrawn-sum : (n : ℕ) (ls : List Lot) → units (undrawn n ls) ≡ units ls - n
 undrawn-sum n [] = omega arith
 undrawn-sum n (l ∷ ls) = let ih = undrawn-sum (n - l .amount) ls in grind (arith, tells)
 

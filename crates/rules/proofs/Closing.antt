@@ -1,24 +1,22 @@
 -- No sum and no unit comes from nowhere or is lost: what each step keeps, and what a run keeps.
-use mathlib.Core.Path.{_≡_, refl, ap, subst, sym, _∙_}
-use mathlib.Core.Bool.{Bool, true, false, cond, not, _&&_}
+use mathlib.Core.Path.{_≡_, refl, subst, sym}
+use mathlib.Core.Bool.{Bool, true, false, cond, _&&_}
 use mathlib.Core.Logic.{_⊎_, inl, inr, ⊎-elim}
 use mathlib.Core.List.{List, [], _∷_}
-use Prim.Native.Nat.{ℕ, zero, suc, _+_, _-_, _≤_, _<_}
+use Prim.Native.Nat.{ℕ, zero, suc, _+_, _≤_}
 use native.Mathlib.Omega.{arith}
 use native.Mathlib.Nat.{zero-add}
-use lib.Dec.{leb, ltb}
+use lib.Dec.{leb}
 use Rattle.std.specs.declared.option.Option.{Option}
 use Rattle.std.specs.declared.option.Option.the-variants.{Some, None}
-use Rattle.std.specs.Results.{isOk}
 use Rattle.std.specs.shelf.Lists.{All}
-use Rattle.std.proofs.shelf.Ways.{tells}
 use Rattle.std.proofs.shelf.Tests.{leb-true, ltb-false, and-parts}
-use Rattle.quantities.specs.Units.{of, each, every, only, at}
+use Rattle.quantities.specs.Units.{of, at}
 use Rattle.quantities.specs.declared.unit.PerUnit.{PerUnit}
 use Rattle.quantities.specs.declared.unit.UnitKind.{UnitKind}
 use Rattle.quantities.specs.declared.unit.UnitKind.the-variants.{Minutes, Megabytes, Messages}
 use Rattle.tariff.specs.Terms.{Terms, Entry, carries-unit, restart-wipes-unit}
-use Rattle.book.specs.Allowance.{Allowance, units, left, empty, fill-answer, filled, ended, lapsed, drawn, draw-answer, aside}
+use Rattle.book.specs.Allowance.{Allowance, units, left, empty, ended, lapsed, drawn, draw-answer, aside}
 use Rattle.rules.specs.declared.call.Status.{Status}
 use Rattle.rules.specs.declared.call.Status.the-variants.{Blocked as blocked, Active as active}
 use Rattle.rules.specs.declared.call.Service.{Service}
@@ -27,90 +25,16 @@ use Rattle.rules.specs.declared.call.Call.{Call}
 use Rattle.rules.specs.declared.call.Call.the-variants.{TopUp as top-up, Use as use-of, Restart as restart, Switch as switch, MegabyteOption as option, DayMark as day-mark}
 use Rattle.rules.specs.declared.call.Event.{Event}
 use Rattle.quantities.specs.declared.time.Day.{Day}
-use Rattle.rules.specs.Receipt.{Tally, Receipt, _⊞_, none, granting, used, ending, wiping-by-restart, wiping-by-switch, _⊕_}
-use Rattle.rules.specs.State.{Calendar, World, State, Account, Out, awaited-fee, awaited-grant, units-gone, money-charged, same, then, with-balance, with-plan, with-anchor}
+use Rattle.rules.specs.Receipt.{Tally, none, granting, used, ending, wiping-by-restart, wiping-by-switch}
+use Rattle.rules.specs.State.{Calendar, World, State, Account, Out, awaited-fee, awaited-grant, money-charged, same, then, with-balance, with-plan, with-anchor}
 use Rattle.rules.specs.DueDays.{refilled, granted, next-due, take-fee, start-on, closed, closing, close-month, renew, block, handle, settle, lapse-all, bring-up}
 use Rattle.rules.specs.Calls.{is-blocked, wake-if-paid, beyond, charge, serve, new-due, wipe-or-keep, restarted, switch-wipes-unit, leave-plan, pay-entry, switched, switch-to, perform}
-use Rattle.rules.specs.Checks.{Refusal, Check, checks, all-checks, switch-takes, day-of, brought, refusal}
-use Rattle.rules.specs.Runs.{Answer, Run, accepted, refused, step, run, opened}
+use Rattle.rules.specs.Checks.{Refusal, checks, all-checks, switch-takes, day-of, brought, refusal}
+use Rattle.rules.specs.Runs.{Answer, accepted, step, run, opened}
 use Rattle.rules.specs.Laws.{paid-in, paid-by, topped-up, Money-closes, Units-close}
-use Rattle.rules.proofs.Books.{lapse-parts, lot-sum, draw-sum, aside-sum}
 use Rattle.rules.proofs.Advance.{Rests, Due, look, settle-rests, settle-due}
 use Rattle.rules.proofs.Steps.{step-accepts, step-refuses, told, passed}
-
--- ## One book
-
--- what was left and what was granted is what is left now and what went out
-abbrev pub Flow : Allowance → Allowance → Tally → Type 0
-Flow b c t = left b + t .granted ≡ left c + units-gone t
-
-flow-then : (b c d : Allowance) (t u : Tally) → Flow b c t → Flow c d u → Flow b d (t ⊞ u)
-flow-then b c d t u p q = omega arith
-
-flow-none : (b : Allowance) → Flow b b none
-flow-none b = omega arith
-
-flow-fill : (n : ℕ) (b : Allowance) → Flow b (refilled n b) (granting (granted n b))
-flow-fill n b = grind (arith, tells)
-
-flow-lapse : (D : ℕ) (b : Allowance) → Flow b (lapsed D b) (ending (units (ended D (b .lots))) 0)
-flow-lapse D b = omega (arith, lapse-parts D (b .lots))
-
-flow-close : (c : Bool) (e : ℕ) (b : Allowance) → Flow b (closed c e b) (closing c b)
-flow-close true e b = omega (arith, lot-sum (b .fresh) e)
-flow-close false e b = omega arith
-
-flow-block : (b : Allowance) → Flow b empty (ending (units (b .lots)) (b .fresh))
-flow-block b = omega arith
-
-flow-draw : (n m : ℕ) (b : Allowance) → Flow b (drawn n b) (used (draw-answer n b) m)
-flow-draw n m b = omega (arith, draw-sum n b)
-
--- a tally that tells what was wiped
-abbrev pub Wiping : (ℕ → Tally) → Type 0
-Wiping wiped = (n : ℕ) → (wiped n .granted ≡ 0) × (units-gone (wiped n) ≡ n)
-
-by-restart : Wiping wiping-by-restart
-by-restart n = (refl, omega arith)
-
-by-switch : Wiping wiping-by-switch
-by-switch n = (refl, omega arith)
-
-flow-wipe-or-keep : (wiped : ℕ → Tally) → Wiping wiped → (x : Bool) (e c : ℕ) (b : Allowance) → Flow b (cond x empty (aside e c b)) (cond x (wiped (left b)) none)
-flow-wipe-or-keep wiped h true e c b = omega (arith, h (left b))
-flow-wipe-or-keep wiped h false e c b = omega (arith, aside-sum e c b)
-
--- ## The three books
-
-abbrev pub Flows : PerUnit Allowance → PerUnit Allowance → PerUnit Tally → Type 0
-Flows bs cs ts = (k : UnitKind) → Flow (of k bs) (of k cs) (of k ts)
-
-flows-then : (bs cs ds : PerUnit Allowance) (ts us : PerUnit Tally) → Flows bs cs ts → Flows cs ds us → Flows bs ds (each (λ k t. t ⊞ of k us) ts)
-flows-then bs cs ds ts us p q Minutes = flow-then (bs .minutes) (cs .minutes) (ds .minutes) (ts .minutes) (us .minutes) (p Minutes) (q Minutes)
-flows-then bs cs ds ts us p q Megabytes = flow-then (bs .megabytes) (cs .megabytes) (ds .megabytes) (ts .megabytes) (us .megabytes) (p Megabytes) (q Megabytes)
-flows-then bs cs ds ts us p q Messages = flow-then (bs .messages) (cs .messages) (ds .messages) (ts .messages) (us .messages) (p Messages) (q Messages)
-
-flows-none : (bs : PerUnit Allowance) → Flows bs bs (every none)
-flows-none bs Minutes = flow-none (bs .minutes)
-flows-none bs Megabytes = flow-none (bs .megabytes)
-flows-none bs Messages = flow-none (bs .messages)
-
-flows-each : (f : UnitKind → Allowance → Allowance) (t : UnitKind → Allowance → Tally) → ((k : UnitKind) (b : Allowance) → Flow b (f k b) (t k b)) →
-    (bs : PerUnit Allowance) → Flows bs (each f bs) (each t bs)
-flows-each f t h bs Minutes = h Minutes (bs .minutes)
-flows-each f t h bs Megabytes = h Megabytes (bs .megabytes)
-flows-each f t h bs Messages = h Messages (bs .messages)
-
-flows-at : (k : UnitKind) (f : Allowance → Allowance) (t : Tally) (bs : PerUnit Allowance) → Flow (of k bs) (f (of k bs)) t → Flows bs (at k f bs) (only k t none)
-flows-at Minutes f t bs h Minutes = h
-flows-at Minutes f t bs h Megabytes = flow-none (bs .megabytes)
-flows-at Minutes f t bs h Messages = flow-none (bs .messages)
-flows-at Megabytes f t bs h Minutes = flow-none (bs .minutes)
-flows-at Megabytes f t bs h Megabytes = h
-flows-at Megabytes f t bs h Messages = flow-none (bs .messages)
-flows-at Messages f t bs h Minutes = flow-none (bs .minutes)
-flows-at Messages f t bs h Megabytes = flow-none (bs .megabytes)
-flows-at Messages f t bs h Messages = h
+use Rattle.rules.proofs.Flow.{flow-fill, flow-lapse, flow-close, flow-block, flow-draw, by-restart, by-switch, flow-wipe-or-keep, flows-then, flows-none, flows-each, flows-at, Wiping, Flows}
 
 -- ## A step from a balance and books, with n paid in
 
@@ -310,10 +234,10 @@ pub affords : (w : World) (a : Account) (e : Event) → refusal w a e ≡ None �
 affords w a e z =
     affords-call w (day-of (e .moment .0)) (e .call) (brought w (e .moment .0) a .state) (passed (all-checks w a e) z .1 .1)
 
-abbrev out-of : Answer → Out
+abbrev pub out-of : Answer → Out
 out-of x = record { state = x .account .state; receipt = x .receipt }
 
-closes-step : (w : World) (a : Account) (e : Event) →
+pub closes-step : (w : World) (a : Account) (e : Event) →
     Closes (paid-by (e .call) (step w a e .outcome)) (a .state .balance) (a .state .books) (out-of (step w a e))
 closes-step w a e = ⊎-elim accept refuse (told w a e)
   where

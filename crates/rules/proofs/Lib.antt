@@ -3,6 +3,15 @@ pub mod Books
 pub mod Advance
 pub mod Steps
 pub mod Marks
+pub mod Flow
 pub mod Closing
 pub mod Ahead
 pub mod Waking
+pub mod Held
+pub mod Sound
+pub mod SoundRuns
+pub mod Fees
+pub mod FeesOfCalls
+pub mod Columns
+pub mod Examples
+pub mod Answering

@@ -7,3 +7,5 @@ pub mod Runs
 pub mod Laws
 pub mod Gregorian
 pub mod Ahead
+pub mod Bounds
+pub mod Examples
