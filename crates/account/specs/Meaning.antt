@@ -2,8 +2,12 @@
 use mathlib.Core.Bool.{Bool, true, false}
 use Prim.Native.Nat.{ℕ}
 use Rattle.std.specs.declared.option.Option.{Option}
+use Rattle.std.specs.declared.option.Option.the-variants.{Some, None}
+use Rattle.quantities.specs.declared.time.Day.{Day}
 use Rattle.tariff.specs.Terms.{Terms, Entry, Lawful}
 use Rattle.book.specs.Allowance.{Allowance}
+use Rattle.rules.specs.declared.call.Status.{Status}
+use Rattle.rules.specs.declared.call.Status.the-variants.{Blocked, Active}
 use Rattle.rules.specs.declared.call.Call.{Call}
 use Rattle.rules.specs.declared.call.Call.the-variants.{TopUp as top-up, Use as use-of, Restart as restart, Switch as switch, MegabyteOption as option, DayMark as day-mark}
 use Rattle.rules.specs.Receipt.{Receipt}
@@ -34,3 +38,8 @@ runs restart = false
 runs (switch c) = false
 runs option = true
 runs day-mark = true
+
+-- the due day of a status: none while blocked
+abbrev pub due-day-of : Status → Option Day
+due-day-of Blocked = None
+due-day-of (Active d) = Some d

@@ -3,6 +3,7 @@ ghost use mathlib.Core.Path.{_≡_};
 ghost use mathlib.Core.Bool.{true, false};
 ghost use Rattle.std.specs.Results.{isOk};
 ghost use Rattle.rules.specs.Runs.{step};
+ghost use Rattle.rules.specs.Bounds.{most-column, Columns-within};
 ghost use Rattle.receipt.specs.Columns.{receipt-of};
 ghost use Rattle.fault.specs.Faults.{outcome-of};
 ghost use Rattle.account.specs.Meaning.{account-of, world, answer, runs};
@@ -18,7 +19,7 @@ use tariff::line::Line;
 
 impl<L: Line, B: Book> Account<L, B> {
     // Judges the call by reading; only an accepted one changes the account and fills the receipt.
-    pub(crate) fn act(&mut self, event: Event, receipt: &mut Receipt) -> Result<(), Fault>
+    fn make(&mut self, event: Event, receipt: &mut Receipt) -> Result<(), Fault>
         requires { ⌜ runs (event .call) ≡ true ⌝ }
         ensures does { λ r. ⌜ answer (outcome-of r) (account-of (B·Book .means) (now (self .exit))) (receipt-of (now (receipt .exit))) ≡ step (world (L·Line .terms) (L·Line .entry) (L·Line .lawful) (now (self .entry) .line) (B·Book .most)) (account-of (B·Book .means) (now (self .entry))) event ⌝ }
         ensures line { λ r. ⌜ now (self .exit) .line ≡ now (self .entry) .line ⌝ }
@@ -37,5 +38,16 @@ impl<L: Line, B: Book> Account<L, B> {
         self.latest = event.moment;
         *receipt = brought.plus(done);
         Ok(())
+    }
+
+    // The same, with the bound on every column of the receipt.
+    pub(crate) fn act(&mut self, event: Event, receipt: &mut Receipt) -> Result<(), Fault>
+        requires { ⌜ runs (event .call) ≡ true ⌝ }
+        ensures does { λ r. ⌜ answer (outcome-of r) (account-of (B·Book .means) (now (self .exit))) (receipt-of (now (receipt .exit))) ≡ step (world (L·Line .terms) (L·Line .entry) (L·Line .lawful) (now (self .entry) .line) (B·Book .most)) (account-of (B·Book .means) (now (self .entry))) event ⌝ }
+        ensures line { λ r. ⌜ now (self .exit) .line ≡ now (self .entry) .line ⌝ }
+        ensures same { λ r. ⌜ (isOk r ≡ false → now (self .exit) ≡ now (self .entry)) ⌝ }
+        ensures columns { λ r. ⌜ Columns-within most-column (receipt-of (now (receipt .exit))) ⌝ }
+    {
+        self.make(event, receipt)
     }
 }

@@ -1,5 +1,9 @@
 // An account: opened on a plan, changed by calls, asked by questions.
 pub mod account;
 mod act;
+pub mod calls;
 mod judge;
+pub mod opening;
 mod perform;
+pub mod questions;
+pub mod refused;

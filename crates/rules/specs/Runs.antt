@@ -74,3 +74,7 @@ opened c t m = record {
 -- An opening is refused past the last moment, and on a code without terms.
 abbrev pub opening-refusal : World → ℕ → ℕ → Option Refusal
 opening-refusal w c m = first-refusal (check 1 (ltb last-moment m) ∷ check 4 (not (isSome (w .terms c))) ∷ [])
+
+-- the account that an opening makes: none where it is refused
+abbrev pub opening : World → ℕ → ℕ → Option Account
+opening w c m = cond (ltb last-moment m) None (elim (w .terms c) [ None ↦ None | Some t ↦ Some (opened c t m) ])
