@@ -21,13 +21,13 @@ impl<'a> Records<'a> {
         ensures position { λ r. ⌜ position r ≡ cond (fits (trailer .first) (trailer .count) (now (file .entry))) (trailer .first) 0 ⌝ }
         ensures whole { λ r. ⌜ (file-right (now (file .entry)) ≡ true → trailer .first ≡ first-offset (now (file .entry)) → trailer .count ≡ count (now (file .entry)) → (coming r ≡ parts (now (file .entry))) × (end r ≡ length (now (file .entry)) - 16)) ⌝ }
     {
-        let end = trailer.first() + 16 * trailer.count() + 16;
+        let end = trailer.first + 16 * trailer.count + 16;
         let fits = end as usize <= file.len();
         Records {
             file,
-            first: if fits { trailer.first() } else { 0 },
+            first: if fits { trailer.first } else { 0 },
             index: 0,
-            left: if fits { trailer.count() } else { 0 },
+            left: if fits { trailer.count } else { 0 },
         }
     }
 

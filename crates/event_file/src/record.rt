@@ -39,7 +39,7 @@ impl Kind {
 }
 
 // The service that a record's second byte names, if it names one.
-pub fn service_of(byte: u8) -> Option<Service>
+fn service_of(byte: u8) -> Option<Service>
     ensures value { λ r. ⌜ r ≡ service-of byte ⌝ }
 {
     match byte {

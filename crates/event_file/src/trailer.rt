@@ -16,13 +16,13 @@ const MOST_BYTES: usize = 65_536;
 #[derive(Clone, Copy)]
 pub struct Trailer {
     // the offset of the first record
-    first: u32,
+    pub(crate) first: u32,
     // how many records there are
-    count: u32,
+    pub(crate) count: u32,
     // the plan that the account is opened on
-    plan: PlanCode,
+    pub plan: PlanCode,
     // when it is opened
-    moment: Moment,
+    pub moment: Moment,
     ghost small: { first + 16 * count + 16 ≤ most-bytes },
 }
 
@@ -52,33 +52,5 @@ impl Trailer {
             plan: PlanCode(plan),
             moment: Moment(u32::from_le_bytes([i, j, k, l])),
         })
-    }
-
-    // The offset of the first record.
-    pub fn first(self) -> u32
-        ensures value { λ r. ⌜ r ≡ self .first ⌝ }
-    {
-        self.first
-    }
-
-    // How many records there are.
-    pub fn count(self) -> u32
-        ensures value { λ r. ⌜ r ≡ self .count ⌝ }
-    {
-        self.count
-    }
-
-    // The plan that the account is opened on.
-    pub fn plan(self) -> PlanCode
-        ensures value { λ r. ⌜ r ≡ self .plan ⌝ }
-    {
-        self.plan
-    }
-
-    // When the account is opened.
-    pub fn moment(self) -> Moment
-        ensures value { λ r. ⌜ r ≡ self .moment ⌝ }
-    {
-        self.moment
     }
 }
