@@ -1,0 +1,3 @@
+// The text of a statement.
+pub mod date;
+pub mod line;
