@@ -43,7 +43,8 @@ fn in_file(result: Result<(), Fault>, place: Place) -> Result<(), FileFault>
 }
 
 // A call that accounts don't make yet.
-pub struct NotYet;
+#[derive(Clone, Copy)]
+pub(crate) struct NotYet;
 
 // Makes the call of an event, if accounts make it yet.
 fn make_call<L: Line, B: Book>(account: &mut Account<L, B>, event: Event, receipt: &mut Receipt) -> Result<Result<(), Fault>, NotYet>
