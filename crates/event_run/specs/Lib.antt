@@ -1,2 +1,3 @@
 pub mod Postings
 pub mod Coded
+pub mod FileLaw

@@ -9,6 +9,7 @@ ghost use Rattle.std.specs.declared.option.Option.the-variants.{Some, None};
 ghost use Rattle.rules.specs.Runs.{opening, opening-refusal};
 ghost use Rattle.event_run.specs.Postings.{postings, closing, placed-outcome, no-place, refused-file, file-postings, file-closing};
 ghost use Rattle.event_run.specs.Coded.{posting-of, file-outcome-of, file-refusal-told};
+ghost use Rattle.event_run.specs.FileLaw.{Law-of-file};
 use crate::post::post;
 use crate::posted::Posted;
 use crate::stopped::Stopped;
@@ -68,8 +69,7 @@ fn open_by<L: Line + Drop, B: Book + Drop>(trailer: Trailer, line: L, books: Per
     }
 }
 
-// Opens the account that the file names on the line, with the books, and makes the call of each record.
-pub fn run_file<L: Line + Drop, B: Book + Drop>(heap: Global, file: &[u8], line: L, books: PerUnit<B>) -> Result<Run<L, B>, Stopped>
+fn run_records<L: Line + Drop, B: Book + Drop>(heap: Global, file: &[u8], line: L, books: PerUnit<B>) -> Result<Run<L, B>, Stopped>
     ensures refused { λ r. ⌜ file-refusal-told r ≡ refused-file (world (L·Line .terms) (L·Line .entry) (L·Line .lawful) line (B·Book .most)) (now (file .entry)) ⌝ }
     ensures posted { λ r. ⌜ made r (λ x. map posting-of (vec-items (x .posted)) ≡ file-postings (world (L·Line .terms) (L·Line .entry) (L·Line .lawful) line (B·Book .most)) (now (file .entry))) ⌝ }
     ensures account { λ r. ⌜ made r (λ x. Some (account-of (B·Book .means) (x .account)) ≡ file-closing (world (L·Line .terms) (L·Line .entry) (L·Line .lawful) line (B·Book .most)) (now (file .entry))) ⌝ }
@@ -80,4 +80,16 @@ pub fn run_file<L: Line + Drop, B: Book + Drop>(heap: Global, file: &[u8], line:
     let mut records = Records::over(file, trailer);
     let posted = post_all(heap, &mut account, &mut records)?;
     Ok(Run { account, posted })
+}
+
+// Opens the account that the file names on the line, with the books, and makes the call of each record.
+pub fn run_file<L: Line + Drop, B: Book + Drop>(heap: Global, file: &[u8], line: L, books: PerUnit<B>) -> Result<Run<L, B>, Stopped>
+    ensures refused { λ r. ⌜ file-refusal-told r ≡ refused-file (world (L·Line .terms) (L·Line .entry) (L·Line .lawful) line (B·Book .most)) (now (file .entry)) ⌝ }
+    ensures posted { λ r. ⌜ made r (λ x. map posting-of (vec-items (x .posted)) ≡ file-postings (world (L·Line .terms) (L·Line .entry) (L·Line .lawful) line (B·Book .most)) (now (file .entry))) ⌝ }
+    ensures account { λ r. ⌜ made r (λ x. Some (account-of (B·Book .means) (x .account)) ≡ file-closing (world (L·Line .terms) (L·Line .entry) (L·Line .lawful) line (B·Book .most)) (now (file .entry))) ⌝ }
+    ensures line { λ r. ⌜ made r (λ x. x .account .line ≡ line) ⌝ }
+    ensures law { λ r. ⌜ made r (λ x. Law-of-file (world (L·Line .terms) (L·Line .entry) (L·Line .lawful) line (B·Book .most)) (now (file .entry)) (map posting-of (vec-items (x .posted))) (account-of (B·Book .means) (x .account))) ⌝ }
+{
+    let run = run_records(heap, file, line, books)?;
+    Ok(run)
 }
