@@ -55,7 +55,13 @@ pub(crate) fn leave_books<B: Book>(
     ensures small { λ r. ⌜ All-below (2 ^ 34) (receipt-of r) ⌝ }
 {
     let minutes = wipe_or_keep(&mut ledger.books.minutes, cause, wiped.minutes, end, cap);
-    let megabytes = wipe_or_keep(&mut ledger.books.megabytes, cause, wiped.megabytes, end, cap);
+    let megabytes = wipe_or_keep(
+        &mut ledger.books.megabytes,
+        cause,
+        wiped.megabytes,
+        end,
+        cap,
+    );
     let messages = wipe_or_keep(&mut ledger.books.messages, cause, wiped.messages, end, cap);
     Receipt::of_units(minutes, megabytes, messages)
 }

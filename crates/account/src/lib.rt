@@ -1,6 +1,6 @@
 // An account: opened on a plan, changed by calls, asked by questions.
 pub mod account;
-mod act;
+pub mod act;
 pub mod calls;
 mod judge;
 mod keeping;
