@@ -11,7 +11,7 @@ use Rattle.event_file.specs.declared.fault.FileFault.{FileFault}
 use Rattle.event_file.specs.declared.fault.FileFault.the-variants.{WrongFile, WrongRecord, Account}
 use Rattle.event_run.specs.declared.posted.Posted.{Posted}
 use Rattle.event_run.specs.declared.stopped.Stopped.{Stopped}
-use Rattle.event_run.specs.declared.stopped.Stopped.the-variants.{Refused, NotRunYet, NoMemory}
+use Rattle.event_run.specs.declared.stopped.Stopped.the-variants.{Refused, NoMemory}
 use Rattle.event_run.specs.Postings.{Placed-refusal, Posting, wrong-record, wrong-file}
 
 -- A wrong file is 13, told at index 0 and offset 0.
@@ -31,5 +31,4 @@ posting-of p = record { place = p .place; outcome = file-outcome-of (p .outcome)
 abbrev pub file-refusal-told : {A : Type 0} → Result A Stopped → Option Placed-refusal
 file-refusal-told (Ok x) = None
 file-refusal-told (Err (Refused f)) = Some (file-refusal-of f)
-file-refusal-told (Err (NotRunYet p)) = None
 file-refusal-told (Err NoMemory) = None

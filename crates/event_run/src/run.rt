@@ -33,10 +33,7 @@ pub(crate) fn post_all<L: Line, B: Book>(heap: Global, account: &mut Account<L, 
 {
     let mut list = Vec::new(heap);
     while let Some(part) = records.next_part() {
-        let place = part.place;
-        let Ok(posted) = post(account, part) else {
-            return Err(Stopped::NotRunYet(place));
-        };
+        let posted = post(account, part);
         if list.push(posted).is_err() {
             return Err(Stopped::NoMemory);
         }

@@ -2,15 +2,11 @@
 ghost use mathlib.Core.Path.{_≡_};
 ghost use Rattle.event_run.specs.declared.stopped.Stopped.the-variants as stopped;
 use event_file::fault::FileFault;
-use event_file::fault::Place;
-use std::alloc::Refused;
 
 #[derive(Clone, Copy)]
 pub enum Stopped {
     // the file or the opening is refused
     Refused(FileFault),
-    // a record asks for a call that accounts don't make yet
-    NotRunYet(Place),
     // want of memory, which has no fault number
     NoMemory,
 }

@@ -20,22 +20,22 @@ loop-part-again g c =
     let on = world (g .L·Line .terms) (g .L·Line .entry) (g .L·Line .lawful) in
     let w = on (c .args .account .now .line) (g .B·Book .most) in
     let a = account-of means (c .loop-part .account) in
-    let b = account-of means (c .post .last .account) in
+    let b = account-of means (c .post-posted .last .account) in
     let p = placed (c .in-Some .part) in
     let before = coming (c .loop-part .records) in
     let after = coming (c .next-part .last .self) in
     let (whole, end, line) = c .loop-part .inv in
     let here = ap (λ l. answer-at (on l (g .B·Book .most)) a p) line in
-    let next = c .in-Ok .ensures tt .account ∙ ap (λ (x : Answer). x .account) here in
-    let is = c .in-Ok .ensures tt .posted ∙ ap (posting p) here in
+    let next = c .post-posted .ensures .account ∙ ap (λ (x : Answer). x .account) here in
+    let is = c .post-posted .ensures .posted ∙ ap (posting p) here in
     let at = c .in-Some .ensures tt .part in
     let ok : isOk (c .push .result) ≡ true = search needs in
     let pushed = c .push .ensures .items ∙ cond-true (isOk (c .push .result)) _ _ ok in
     let done = map posting-of (vec-items (c .loop-part .list)) in
-    let x = posting-of (c .in-Ok .posted) in
-    let listed = ap (map posting-of) pushed ∙ map-append posting-of (vec-items (c .loop-part .list)) (c .in-Ok .posted ∷ []) in
+    let x = posting-of (c .post-posted .result) in
+    let listed = ap (map posting-of) pushed ∙ map-append posting-of (vec-items (c .loop-part .list)) (c .post-posted .result ∷ []) in
     (
       ap (λ xs. xs ++ postings w b after) listed ∙ postings-turn w a b p before after at next done x is _ whole,
       closing-turn w a b p before after at next _ end,
-      c .post .ensures .line ∙ line,
+      c .post-posted .ensures .line ∙ line,
     )
