@@ -2,6 +2,8 @@
 ghost use mathlib.Core.Path.{_≡_};
 ghost use lib.IntN.{pos, negsuc, _-ℤ_};
 ghost use lib.Signed.{_≤ℤ_};
+ghost use Rattle.quantities.specs.Units.{of};
+ghost use Rattle.book.specs.Allowance.{left as all-left};
 ghost use Rattle.rules.specs.State.{awaited-fee};
 ghost use Rattle.account.specs.Meaning.{account-of, due-day-of};
 use crate::account::Account;
@@ -9,6 +11,7 @@ use book::meaning::Book;
 use quantities::margin::Margin;
 use quantities::money::Sums;
 use quantities::time::Day;
+use quantities::unit::UnitKind;
 use rules::call::Status;
 
 impl<L, B: Book> Account<L, B> {
@@ -41,5 +44,16 @@ impl<L, B: Book> Account<L, B> {
         ensures high { λ r. ⌜ r .0 ≤ℤ pos 999999999 ⌝ }
     {
         Margin::between(self.ledger.balance, self.ledger.terms.fee)
+    }
+
+    // What is left of a unit: the fresh amount and all old lots of its book.
+    pub fn units_left(&self, unit: UnitKind) -> u32
+        ensures value { λ r. ⌜ r ≡ all-left (of unit (account-of (B·Book .means) (now (self .entry)) .state .books)) ⌝ }
+    {
+        match unit {
+            UnitKind::Minutes => self.ledger.books.minutes.left(),
+            UnitKind::Megabytes => self.ledger.books.megabytes.left(),
+            UnitKind::Messages => self.ledger.books.messages.left(),
+        }
     }
 }

@@ -4,7 +4,7 @@ ghost use mathlib.Core.Bool.{false, cond};
 ghost use Prim.Native.Nat.{ℕ, _≤_};
 ghost use Rattle.std.specs.Results.{isOk};
 ghost use Rattle.quantities.specs.Limits.{most-grant, most-old-units};
-ghost use Rattle.book.specs.Allowance.{Allowance, Kept, units, empty, fill-answer, filled, draw-answer, drawn, ended, lapsed, carried, aside, aside-answer};
+ghost use Rattle.book.specs.Allowance.{Allowance, Kept, units, empty, fill-answer, filled, draw-answer, drawn, ended, lapsed, carried, aside, aside-answer, left as all-left};
 use crate::answers::Cleared;
 use crate::answers::Drawn;
 use crate::fault::BookFault;
@@ -63,6 +63,10 @@ pub trait Book: Sized {
         ensures answer { λ r. ⌜ r ≡ aside-answer most (end .0) (cap .0) (means (now (self .entry))) ⌝ }
         ensures book { λ r. ⌜ means (now (self .exit)) ≡ cond (isOk r) (aside (end .0) (cap .0) (means (now (self .entry)))) (means (now (self .entry))) ⌝ }
         ensures same { λ r. ⌜ (isOk r ≡ false → now (self .exit) ≡ now (self .entry)) ⌝ };
+
+    // All that is left as the book stands, which changes nothing.
+    fn left(&self) -> u32
+        ensures answer { λ r. ⌜ r ≡ all-left (means (now (self .entry))) ⌝ };
 
     // The fresh amount after a lapse on the day, which changes nothing.
     fn fresh_after(&self, day: Day) -> u32

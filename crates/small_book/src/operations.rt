@@ -100,6 +100,10 @@ pub impl Book for Small as SmallBook {
         Ok(())
     }
 
+    fn left(&self) -> u32 {
+        self.fresh + self.old
+    }
+
     fn fresh_after(&self, _day: Day) -> u32 {
         self.fresh
     }

@@ -58,14 +58,6 @@ fn print_statement(rt: &LibcRuntime) -> Result<(), AnyError> {
             }
         }
         Err(Stopped::Refused(fault)) => rt.print(refused_line(heap, fault.number())?)?,
-        Err(Stopped::NotRunYet(place)) => {
-            let index = place.index;
-            let offset = place.offset;
-            return Err(format!(
-                heap,
-                "record {index} at offset {offset} asks for a call that does not run yet"
-            )?.into());
-        }
         Err(Stopped::NoMemory) => return Err("no memory".into()),
     }
     Ok(())

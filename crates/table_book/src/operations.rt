@@ -91,6 +91,10 @@ pub impl Book for Table as TableBook {
         Ok(())
     }
 
+    fn left(&self) -> u32 {
+        self.fresh + self.old.sum()
+    }
+
     fn fresh_after(&self, _day: Day) -> u32 {
         self.fresh
     }
