@@ -1,5 +1,4 @@
 -- What an account of the code means, and the world that its rules are read from.
-use mathlib.Core.Bool.{Bool, true, false}
 use Prim.Native.Nat.{ℕ}
 use Rattle.std.specs.declared.option.Option.{Option}
 use Rattle.std.specs.declared.option.Option.the-variants.{Some, None}
@@ -8,8 +7,6 @@ use Rattle.tariff.specs.Terms.{Terms, Entry, Lawful}
 use Rattle.book.specs.Allowance.{Allowance}
 use Rattle.rules.specs.declared.call.Status.{Status}
 use Rattle.rules.specs.declared.call.Status.the-variants.{Blocked, Active}
-use Rattle.rules.specs.declared.call.Call.{Call}
-use Rattle.rules.specs.declared.call.Call.the-variants.{TopUp as top-up, Use as use-of, Restart as restart, Switch as switch, MegabyteOption as option, DayMark as day-mark}
 use Rattle.rules.specs.Receipt.{Receipt}
 use Rattle.rules.specs.State.{World, State, Account as Meant}
 use Rattle.rules.specs.Checks.{Refusal}
@@ -29,15 +26,6 @@ world terms entry lawful l most = record { calendar = gregorian; terms = terms l
 -- how a call came out, the account after it and its receipt
 abbrev pub answer : Option Refusal → Meant → Receipt → Answer
 answer o a r = record { outcome = o; account = a; receipt = r }
-
--- the calls that accounts can make today
-abbrev pub runs : Call → Bool
-runs (top-up n) = true
-runs (use-of v n) = true
-runs restart = false
-runs (switch c) = false
-runs option = true
-runs day-mark = true
 
 -- the due day of a status: none while blocked
 abbrev pub due-day-of : Status → Option Day

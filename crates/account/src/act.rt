@@ -1,12 +1,12 @@
 // One call, from its moment to its receipt.
 ghost use mathlib.Core.Path.{_≡_};
-ghost use mathlib.Core.Bool.{true, false};
+ghost use mathlib.Core.Bool.{false};
 ghost use Rattle.std.specs.Results.{isOk};
 ghost use Rattle.rules.specs.Runs.{step};
 ghost use Rattle.rules.specs.Bounds.{most-column, Columns-within};
 ghost use Rattle.receipt.specs.Columns.{receipt-of};
 ghost use Rattle.fault.specs.Faults.{outcome-of};
-ghost use Rattle.account.specs.Meaning.{account-of, world, answer, runs};
+ghost use Rattle.account.specs.Meaning.{account-of, world, answer};
 use crate::account::Account;
 use crate::judge::judge;
 use crate::perform::perform;
@@ -20,7 +20,6 @@ use tariff::line::Line;
 impl<L: Line, B: Book> Account<L, B> {
     // Judges the call by reading; only an accepted one changes the account and fills the receipt.
     fn make(&mut self, event: Event, receipt: &mut Receipt) -> Result<(), Fault>
-        requires { ⌜ runs (event .call) ≡ true ⌝ }
         ensures does { λ r. ⌜ answer (outcome-of r) (account-of (B·Book .means) (now (self .exit))) (receipt-of (now (receipt .exit))) ≡ step (world (L·Line .terms) (L·Line .entry) (L·Line .lawful) (now (self .entry) .line) (B·Book .most)) (account-of (B·Book .means) (now (self .entry))) event ⌝ }
         ensures line { λ r. ⌜ now (self .exit) .line ≡ now (self .entry) .line ⌝ }
         ensures same { λ r. ⌜ (isOk r ≡ false → now (self .exit) ≡ now (self .entry)) ⌝ }
@@ -40,9 +39,8 @@ impl<L: Line, B: Book> Account<L, B> {
         Ok(())
     }
 
-    // The same, with the bound on every column of the receipt.
-    pub(crate) fn act(&mut self, event: Event, receipt: &mut Receipt) -> Result<(), Fault>
-        requires { ⌜ runs (event .call) ≡ true ⌝ }
+    // Any call, by its event. The receipt is set whole, whatever it held, each column within its bound.
+    pub fn act(&mut self, event: Event, receipt: &mut Receipt) -> Result<(), Fault>
         ensures does { λ r. ⌜ answer (outcome-of r) (account-of (B·Book .means) (now (self .exit))) (receipt-of (now (receipt .exit))) ≡ step (world (L·Line .terms) (L·Line .entry) (L·Line .lawful) (now (self .entry) .line) (B·Book .most)) (account-of (B·Book .means) (now (self .entry))) event ⌝ }
         ensures line { λ r. ⌜ now (self .exit) .line ≡ now (self .entry) .line ⌝ }
         ensures same { λ r. ⌜ (isOk r ≡ false → now (self .exit) ≡ now (self .entry)) ⌝ }

@@ -1,20 +1,22 @@
 // Whether a call is refused, and why. Judging reads only.
 ghost use mathlib.Core.Path.{_≡_};
-ghost use mathlib.Core.Bool.{true};
 ghost use mathlib.Core.List.{[]};
 ghost use Prim.Native.Nat.{_+_, _-_, _≤_};
 ghost use Rattle.quantities.specs.Limits.{most-grant};
 ghost use Rattle.book.specs.Allowance.{left, lapsed};
 ghost use Rattle.rules.specs.DueDays.{lapse-all, bring-up};
 ghost use Rattle.rules.specs.Calls.{charge as use-charge};
-ghost use Rattle.rules.specs.Checks.{has-service, runs-past, first-refusal, checks};
+ghost use Rattle.rules.specs.Checks.{has-service, runs-past, is-on, first-refusal, checks};
 ghost use Rattle.rules.specs.Gregorian.{gregorian};
-ghost use Rattle.rules.specs.declared.call.Call.the-variants.{TopUp as top-up-call, Use as use-call};
+ghost use Rattle.rules.specs.declared.call.Call.the-variants.{TopUp as top-up-call, Use as use-call, Restart as restart-call, Switch as switch-call};
 ghost use Rattle.ledger.specs.Meaning.{state-of};
 ghost use Rattle.small_book.specs.Meaning.{meaning};
 ghost use Rattle.fault.specs.Faults.{outcome-of};
 ghost use Rattle.rules.specs.Ahead.{stripped};
-ghost use Rattle.account.specs.Meaning.{world, runs};
+ghost use Rattle.account.specs.Meaning.{world};
+use crate::keeping::judge_books;
+use crate::wiping::wiped_by_restart;
+use crate::wiping::wiped_by_switch;
 use book::meaning::Book;
 use fault::account::Fault;
 use ledger::bring_up::settle;
@@ -34,6 +36,7 @@ use rules::call::Status;
 use small_book::operations::SmallBook;
 use small_book::small::Small;
 use tariff::line::Line;
+use tariff::terms::PlanCode;
 
 // What is left of a unit after a lapse on the day.
 fn left_after<B: Book>(book: &B, day: Day) -> u64
@@ -142,6 +145,53 @@ fn judge_use<L: Line, B: Book>(
     Ok(())
 }
 
+fn fee_taken_on<B: Book>(ledger: &Ledger<B>, day: Day) -> bool
+    ensures { λ r. ⌜ r ≡ is-on (now (ledger .entry) .«last_fee») (day .0) ⌝ }
+{
+    match ledger.last_fee {
+        None => false,
+        Some(last) => last.0 == day.0,
+    }
+}
+
+fn judge_restart<L: Line, B: Book>(ledger: &Ledger<B>, line: &L, day: CallDay) -> Result<(), Fault>
+    ensures told { λ r. ⌜ outcome-of r ≡ first-refusal (checks (world (L·Line .terms) (L·Line .entry) (L·Line .lawful) (now (line .entry)) (B·Book .most)) (day .day .0) restart-call (lapse-all (day .day .0) (state-of (B·Book .means) (now (ledger .entry))) .state)) ⌝ }
+{
+    let Status::Active(due) = ledger.status else {
+        return Err(Fault::Blocked);
+    };
+    if fee_taken_on(ledger, day.day) {
+        return Err(Fault::FeeTakenThatDay);
+    }
+    if ledger.balance.sums.0 < ledger.terms.fee.sums.0 {
+        return Err(Fault::BalanceTooLow);
+    }
+    judge_books(ledger, day, due, wiped_by_restart(ledger.terms))
+}
+
+fn judge_switch<L: Line, B: Book>(
+    ledger: &Ledger<B>,
+    line: &L,
+    day: CallDay,
+    code: PlanCode,
+) -> Result<(), Fault>
+    ensures told { λ r. ⌜ outcome-of r ≡ first-refusal (checks (world (L·Line .terms) (L·Line .entry) (L·Line .lawful) (now (line .entry)) (B·Book .most)) (day .day .0) (switch-call code) (lapse-all (day .day .0) (state-of (B·Book .means) (now (ledger .entry))) .state)) ⌝ }
+{
+    let Some(terms) = line.terms(code) else {
+        return Err(Fault::NoTerms);
+    };
+    let Some(entry) = line.entry(ledger.plan, code) else {
+        return Err(Fault::NoEntry);
+    };
+    if ledger.balance.sums.0 < entry.price.0 + terms.fee.sums.0 {
+        return Err(Fault::BalanceTooLow);
+    }
+    match ledger.status {
+        Status::Blocked => Ok(()),
+        Status::Active(due) => judge_books(ledger, day, due, wiped_by_switch(entry, ledger.terms)),
+    }
+}
+
 // Which refusal a call meets after a lapse on the day.
 fn judge_at<L: Line, B: Book>(
     ledger: &Ledger<B>,
@@ -149,14 +199,13 @@ fn judge_at<L: Line, B: Book>(
     day: CallDay,
     call: Call,
 ) -> Result<(), Fault>
-    requires { ⌜ runs call ≡ true ⌝ }
     ensures told { λ r. ⌜ outcome-of r ≡ first-refusal (checks (world (L·Line .terms) (L·Line .entry) (L·Line .lawful) (now (line .entry)) (B·Book .most)) (day .day .0) call (lapse-all (day .day .0) (state-of (B·Book .means) (now (ledger .entry))) .state)) ⌝ }
 {
     match (ledger.status, call) {
         (_, Call::TopUp(sums)) => judge_top_up(ledger, line, day, sums),
         (_, Call::Use(service, n)) => judge_use(ledger, line, day, service, n),
-        (_, Call::Restart) => unreachable(),
-        (_, Call::Switch(_)) => unreachable(),
+        (_, Call::Restart) => judge_restart(ledger, line, day),
+        (_, Call::Switch(code)) => judge_switch(ledger, line, day, code),
         (Status::Blocked, Call::MegabyteOption) => Err(Fault::Blocked),
         (Status::Active(_), Call::MegabyteOption) => Ok(()),
         (_, Call::DayMark) => Ok(()),
@@ -201,7 +250,6 @@ pub(crate) fn judge<L: Line, B: Book>(
     day: CallDay,
     call: Call,
 ) -> Result<(), Fault>
-    requires { ⌜ runs call ≡ true ⌝ }
     ensures told { λ r. ⌜ outcome-of r ≡ first-refusal (checks (world (L·Line .terms) (L·Line .entry) (L·Line .lawful) (now (line .entry)) (B·Book .most)) (day .day .0) call (bring-up gregorian (day .day .0) (state-of (B·Book .means) (now (ledger .entry))) .state)) ⌝ }
 {
     match ledger.status {

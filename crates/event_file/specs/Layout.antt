@@ -48,7 +48,3 @@ file-right file =
 -- The 16 bytes at an offset.
 abbrev pub sixteen-at : List ℕ → ℕ → List ℕ
 sixteen-at file offset = take 16 (drop offset file)
-
--- The record with an index, counted from 0.
-abbrev pub record-at : List ℕ → ℕ → List ℕ
-record-at file k = sixteen-at file (first-offset file + 16 * k)

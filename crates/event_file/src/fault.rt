@@ -15,7 +15,7 @@ pub struct Place {
 }
 
 // An account's refusal, with the place of the record that asked for the call.
-#[derive(Clone, Copy, PartialEq, Eq, Debug)]
+#[derive(Clone, Copy)]
 pub struct PlacedFault {
     pub fault: Fault,
     pub place: Place,

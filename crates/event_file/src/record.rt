@@ -11,7 +11,7 @@ use rules::call::Service;
 use tariff::terms::PlanCode;
 
 // The kinds of records, one for each call.
-#[derive(Clone, Copy, PartialEq, Eq, Debug)]
+#[derive(Clone, Copy)]
 pub enum Kind {
     TopUp,
     Use,

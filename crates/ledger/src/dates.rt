@@ -2,6 +2,7 @@
 ghost use mathlib.Core.Path.{_≡_};
 ghost use Prim.Native.Nat.{_≤_};
 ghost use Rattle.rules.specs.State.{anchor-day};
+ghost use Rattle.rules.specs.Calls.{new-due};
 ghost use Rattle.rules.specs.Gregorian.{gregorian};
 use calendar::anchor::Anchor;
 use calendar::anchor::due_day;
@@ -34,4 +35,11 @@ pub(crate) fn anchor_on(day: CallDay) -> Anchor
         unreachable()
     };
     Anchor(number)
+}
+
+// The due day after a fee on the day with the day's own day of the month as the anchor.
+pub fn new_due(day: CallDay) -> Day
+    ensures value { λ r. ⌜ r .0 ≡ new-due gregorian (day .day .0) ⌝ }
+{
+    next_due(day, Some(anchor_on(day)))
 }

@@ -1,7 +1,7 @@
 // What a call did to one unit.
 ghost use mathlib.Core.Path.{_≡_};
 ghost use Prim.Native.Nat.{_^_};
-ghost use Rattle.rules.specs.Receipt.{none as nothing-told, granting, used, ending, _⊞_};
+ghost use Rattle.rules.specs.Receipt.{none as nothing-told, granting, used, ending, wiping-by-restart, wiping-by-switch, _⊞_};
 ghost use Rattle.receipt.specs.Columns.{tally-of, capped-tally, Below};
 use quantities::unit::Count;
 use quantities::unit::Total;
@@ -62,6 +62,22 @@ impl<K> Tally<K> {
         let mut tally = Tally::none();
         tally.ended = Total::new(ended);
         tally.late = Total::new(late);
+        tally
+    }
+
+    pub fn wiped_by_restart(count: u64) -> Self
+        ensures { λ r. ⌜ tally-of r ≡ wiping-by-restart count ⌝ }
+    {
+        let mut tally = Tally::none();
+        tally.wiped_by_restart = Total::new(count);
+        tally
+    }
+
+    pub fn wiped_by_switch(count: u64) -> Self
+        ensures { λ r. ⌜ tally-of r ≡ wiping-by-switch count ⌝ }
+    {
+        let mut tally = Tally::none();
+        tally.wiped_by_switch = Total::new(count);
         tally
     }
 

@@ -34,7 +34,7 @@ pub perform-done-requires : need.perform-done-requires
 perform-done-requires g c κs =
     let brought = ap (λ (o : Out). o .state) (c .bring-up-brought .ensures .does) in
     let w = world (g .L·Line .terms) (g .L·Line .entry) (g .L·Line .lawful) (c .args .self .now .line) (g .B·Book .most) in
-    (c .pre, ap (λ x. first-refusal (checks w (c .in-Some .day .day .0) (c .args .event .call) x)) brought ∙ sym (c .in-Continue-judge .ensures tt .told))
+    ap (λ x. first-refusal (checks w (c .in-Some .day .day .0) (c .args .event .call) x)) brought ∙ sym (c .in-Continue-judge .ensures tt .told)
 
 pub returns : need.returns
 returns g c =
