@@ -24,7 +24,7 @@ use Rattle.event_file.specs.Layout.{opening-plan, opening-moment}
 use Rattle.event_file.specs.Parts.{Placed, parts}
 use Rattle.event_file.specs.Records.{decoded}
 use Rattle.event_run.specs.Postings.{Posting, answer-to, placed-outcome, posting, postings, closing, postings-from, closing-from, file-postings, file-closing, opened-by}
-use Rattle.event_run.specs.FileLaw.{calls, with-event, with-outcome, bare, call-outcomes, total, File-law, Law-from, Law-of-file}
+use Rattle.event_run.specs.FileLaw.{calls, with-event, with-outcome, bare, call-outcomes, total, File-law, Law-from, Law-of-file, Law-closing, Obeys-law}
 
 bare-placed : (o : Option Refusal) (p : _) → bare (placed-outcome o p) ≡ o
 bare-placed None p = refl
@@ -105,3 +105,10 @@ law-of-file w file posted end = go (ltb last-moment (opening-moment file)) (w .t
         let a = opened c t m in
         let ends : end ≡ closing w a (parts file) = some-is end (closing w a (parts file)) q in
         subst₂ (File-law w (parts file) a) (sym p) (sym ends) (file-law w c t m (parts file))
+
+pub obeys-law : (w : World) (file : List ℕ) → Obeys-law w file
+obeys-law w file = go (file-closing w file) refl
+  where
+    go : (o : Option Account) → o ≡ file-closing w file → Law-closing o w file
+    go None e = tt
+    go (Some end) e = law-of-file w file (file-postings w file) end refl e

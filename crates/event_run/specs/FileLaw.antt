@@ -16,7 +16,7 @@ use Rattle.rules.specs.Runs.{run}
 use Rattle.rules.specs.Laws.{topped-up, marked-at, One-accepted}
 use Rattle.event_file.specs.Parts.{Placed, parts}
 use Rattle.event_file.specs.Records.{decoded}
-use Rattle.event_run.specs.Postings.{Placed-refusal, Posting, opened-by}
+use Rattle.event_run.specs.Postings.{Placed-refusal, Posting, opened-by, file-postings, file-closing}
 
 -- ## The calls of a file
 
@@ -74,3 +74,11 @@ Law-from (Some a) w file posted end = File-law w (parts file) a posted end
 
 abbrev pub Law-of-file : World → List ℕ → List Posting → Account → Type 0
 Law-of-file w file posted end = Law-from (opened-by w file) w file posted end
+
+-- the law of whatever a file's run comes to
+abbrev pub Law-closing : Option Account → World → List ℕ → Type 0
+Law-closing None w file = Unit {0}
+Law-closing (Some end) w file = Law-of-file w file (file-postings w file) end
+
+abbrev pub Obeys-law : World → List ℕ → Type 0
+Obeys-law w file = Law-closing (file-closing w file) w file

@@ -1,15 +1,11 @@
 // Reads an event file from standard input and prints its statement: what became of each record, and of the account.
-use event_run::posted::Posted;
-use event_run::run::run_file;
-use event_run::stopped::Stopped;
 use plans::doimiy::DoimiyLine;
 use plans::single_plans::SinglePlansLine;
 use plans::sof::SofLine;
 use plans::three_lines::three_lines;
 use quantities::unit::PerUnit;
-use statement_text::line::last_line;
-use statement_text::line::record_line;
-use statement_text::line::refused_line;
+use statement_file::statement::NoStatement;
+use statement_file::statement::statement;
 use std::error::AnyError;
 use std::io::Read;
 use table_book::operations::TableBook;
@@ -18,27 +14,6 @@ use tariff::both::BothLine;
 
 // A file past 65,536 bytes is refused whatever it holds, so that one byte more says enough.
 const MOST_READ: u64 = 65_537;
-
-fn print_records(rt: &LibcRuntime, posted: &[Posted]) -> Result<(), AnyError> {
-    for record in posted {
-        let number = match record.outcome {
-            Ok(()) => 0,
-            Err(fault) => fault.number(),
-        };
-        let receipt = record.receipt;
-        let line = record_line(
-            rt.alloc(),
-            record.place.index,
-            number,
-            receipt.fees,
-            receipt.use_charges,
-            receipt.switch_charges,
-            record.balance,
-        )?;
-        rt.print(line)?;
-    }
-    Ok(())
-}
 
 fn print_statement(rt: &LibcRuntime) -> Result<(), AnyError> {
     let heap = rt.alloc();
@@ -49,16 +24,10 @@ fn print_statement(rt: &LibcRuntime) -> Result<(), AnyError> {
         megabytes: Table::new(),
         messages: Table::new(),
     };
-    match run_file(heap, &file, three_lines(), books) {
-        Ok(run) => {
-            print_records(rt, &run.posted)?;
-            match last_line(heap, run.account.status())? {
-                Some(line) => rt.print(line)?,
-                None => return Err("the due day is past the calendar".into()),
-            }
-        }
-        Err(Stopped::Refused(fault)) => rt.print(refused_line(heap, fault.number())?)?,
-        Err(Stopped::NoMemory) => return Err("no memory".into()),
+    match statement(heap, &file, three_lines(), books) {
+        Ok(text) => rt.print(text)?,
+        Err(NoStatement::PastCalendar) => return Err("the due day is past the calendar".into()),
+        Err(NoStatement::NoMemory) => return Err("no memory".into()),
     }
     Ok(())
 }

@@ -1,0 +1,3 @@
+// The statement of an event file, from its bytes to its text.
+mod lines;
+pub mod statement;
