@@ -1,0 +1,46 @@
+// Prints the statement of each event file that its arguments name, under the file's name.
+use plans::doimiy::DoimiyLine;
+use plans::single_plans::SinglePlansLine;
+use plans::sof::SofLine;
+use plans::three_lines::three_lines;
+use quantities::unit::PerUnit;
+use statement_file::statement::NoStatement;
+use statement_file::statement::statement;
+use std::env;
+use std::error::AnyError;
+use std::fs;
+use table_book::operations::TableBook;
+use table_book::table::Table;
+use tariff::both::BothLine;
+
+fn print_statement(rt: &LibcRuntime, name: &str) -> Result<(), AnyError> {
+    let file = fs::read(rt, name)?;
+    let books = PerUnit {
+        minutes: Table::new(),
+        megabytes: Table::new(),
+        messages: Table::new(),
+    };
+    println!(rt, "{name}")?;
+    match statement(rt.alloc(), &file, three_lines(), books) {
+        Ok(text) => rt.print(text)?,
+        Err(NoStatement::NotRunYet(place)) => {
+            let index = place.index;
+            let offset = place.offset;
+            println!(rt, "stopped at record {index}, offset {offset}")?;
+        }
+        Err(NoStatement::PastCalendar) => return Err("the due day is past the calendar".into()),
+        Err(NoStatement::NoMemory) => return Err("no memory".into()),
+    }
+    Ok(())
+}
+
+fn print_all(rt: &LibcRuntime) -> Result<(), AnyError> {
+    for name in env::args(rt)?.skip(1) {
+        print_statement(rt, &name)?;
+    }
+    Ok(())
+}
+
+fn main(rt: LibcRuntime) -> Result<(), AnyError> {
+    rt.report(print_all(&rt))
+}
