@@ -19,7 +19,12 @@ use tariff::terms::PlanCode;
 
 impl<L: Line, B: Book> Account<L, B> {
     // Opens an account on a plan of the line, blocked and without money. It clears the books and keeps them.
-    pub fn open(line: L, books: PerUnit<B>, plan: PlanCode, moment: Moment) -> Result<Account<L, B>, RefusedOpening<L, B>>
+    pub fn open(
+        line: L,
+        books: PerUnit<B>,
+        plan: PlanCode,
+        moment: Moment,
+    ) -> Result<Account<L, B>, RefusedOpening<L, B>>
         ensures told { λ r. ⌜ refusal-told r ≡ opening-refusal (world (L·Line .terms) (L·Line .entry) (L·Line .lawful) line (B·Book .most)) (plan .0) (moment .0) ⌝ }
         ensures account { λ r. ⌜ account-told (B·Book .means) r ≡ opening (world (L·Line .terms) (L·Line .entry) (L·Line .lawful) line (B·Book .most)) (plan .0) (moment .0) ⌝ }
         ensures handed { λ r. ⌜ Handed line books r ⌝ }

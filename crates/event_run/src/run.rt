@@ -25,7 +25,11 @@ use std::alloc::Global;
 use tariff::line::Line;
 
 // Posts the records that are still to come, one after another.
-pub(crate) fn post_all<L: Line, B: Book>(heap: Global, account: &mut Account<L, B>, records: &mut Records<'_>) -> Result<Vec<Posted>, Stopped>
+pub(crate) fn post_all<L: Line, B: Book>(
+    heap: Global,
+    account: &mut Account<L, B>,
+    records: &mut Records<'_>,
+) -> Result<Vec<Posted>, Stopped>
     ensures posted { λ r. ⌜ made r (λ v. map posting-of (vec-items v) ≡ postings (world (L·Line .terms) (L·Line .entry) (L·Line .lawful) (now (account .entry) .line) (B·Book .most)) (account-of (B·Book .means) (now (account .entry))) (coming (now (records .entry)))) ⌝ }
     ensures account { λ r. ⌜ made r (λ v. account-of (B·Book .means) (now (account .exit)) ≡ closing (world (L·Line .terms) (L·Line .entry) (L·Line .lawful) (now (account .entry) .line) (B·Book .most)) (account-of (B·Book .means) (now (account .entry))) (coming (now (records .entry)))) ⌝ }
     ensures line { λ r. ⌜ now (account .exit) .line ≡ now (account .entry) .line ⌝ }
@@ -49,7 +53,11 @@ pub struct Run<L, B> {
 }
 
 // Opens the account that a trailer names. A refused opening lets the line and the books go.
-fn open_by<L: Line + Drop, B: Book + Drop>(trailer: Trailer, line: L, books: PerUnit<B>) -> Result<Account<L, B>, FileFault>
+fn open_by<L: Line + Drop, B: Book + Drop>(
+    trailer: Trailer,
+    line: L,
+    books: PerUnit<B>,
+) -> Result<Account<L, B>, FileFault>
     ensures told { λ r. ⌜ file-outcome-of r ≡ placed-outcome (opening-refusal (world (L·Line .terms) (L·Line .entry) (L·Line .lawful) line (B·Book .most)) (trailer .plan .0) (trailer .moment .0)) no-place ⌝ }
     ensures account { λ r. ⌜ made r (λ a. Some (account-of (B·Book .means) a) ≡ opening (world (L·Line .terms) (L·Line .entry) (L·Line .lawful) line (B·Book .most)) (trailer .plan .0) (trailer .moment .0)) ⌝ }
     ensures line { λ r. ⌜ made r (λ a. a .line ≡ line) ⌝ }
@@ -66,7 +74,12 @@ fn open_by<L: Line + Drop, B: Book + Drop>(trailer: Trailer, line: L, books: Per
     }
 }
 
-fn run_records<L: Line + Drop, B: Book + Drop>(heap: Global, file: &[u8], line: L, books: PerUnit<B>) -> Result<Run<L, B>, Stopped>
+fn run_records<L: Line + Drop, B: Book + Drop>(
+    heap: Global,
+    file: &[u8],
+    line: L,
+    books: PerUnit<B>,
+) -> Result<Run<L, B>, Stopped>
     ensures refused { λ r. ⌜ file-refusal-told r ≡ refused-file (world (L·Line .terms) (L·Line .entry) (L·Line .lawful) line (B·Book .most)) (now (file .entry)) ⌝ }
     ensures posted { λ r. ⌜ made r (λ x. map posting-of (vec-items (x .posted)) ≡ file-postings (world (L·Line .terms) (L·Line .entry) (L·Line .lawful) line (B·Book .most)) (now (file .entry))) ⌝ }
     ensures account { λ r. ⌜ made r (λ x. Some (account-of (B·Book .means) (x .account)) ≡ file-closing (world (L·Line .terms) (L·Line .entry) (L·Line .lawful) line (B·Book .most)) (now (file .entry))) ⌝ }
@@ -80,7 +93,12 @@ fn run_records<L: Line + Drop, B: Book + Drop>(heap: Global, file: &[u8], line: 
 }
 
 // Opens the account that the file names on the line, with the books, and makes the call of each record.
-pub fn run_file<L: Line + Drop, B: Book + Drop>(heap: Global, file: &[u8], line: L, books: PerUnit<B>) -> Result<Run<L, B>, Stopped>
+pub fn run_file<L: Line + Drop, B: Book + Drop>(
+    heap: Global,
+    file: &[u8],
+    line: L,
+    books: PerUnit<B>,
+) -> Result<Run<L, B>, Stopped>
     ensures refused { λ r. ⌜ file-refusal-told r ≡ refused-file (world (L·Line .terms) (L·Line .entry) (L·Line .lawful) line (B·Book .most)) (now (file .entry)) ⌝ }
     ensures posted { λ r. ⌜ made r (λ x. map posting-of (vec-items (x .posted)) ≡ file-postings (world (L·Line .terms) (L·Line .entry) (L·Line .lawful) line (B·Book .most)) (now (file .entry))) ⌝ }
     ensures account { λ r. ⌜ made r (λ x. Some (account-of (B·Book .means) (x .account)) ≡ file-closing (world (L·Line .terms) (L·Line .entry) (L·Line .lawful) line (B·Book .most)) (now (file .entry))) ⌝ }

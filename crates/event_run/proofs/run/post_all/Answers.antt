@@ -33,8 +33,7 @@ loop-part-again g c =
     let pushed = c .push .ensures .items ∙ cond-true (isOk (c .push .result)) _ _ ok in
     let done = map posting-of (vec-items (c .loop-part .list)) in
     let x = posting-of (c .post-posted .result) in
-    let listed = ap (map posting-of) pushed ∙ map-append posting-of (vec-items (c .loop-part .list)) (c .post-posted .result ∷ []) in
-    (
+    let listed = ap (map posting-of) pushed ∙ map-append posting-of (vec-items (c .loop-part .list)) (c .post-posted .result ∷ []) in (
       ap (λ xs. xs ++ postings w b after) listed ∙ postings-turn w a b p before after at next done x is _ whole,
       closing-turn w a b p before after at next _ end,
       c .post-posted .ensures .line ∙ line,
