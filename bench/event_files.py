@@ -20,6 +20,14 @@ def use(moment, service, count):
     return record(2, service, count, moment)
 
 
+def restart(moment):
+    return record(3, 0, 0, moment)
+
+
+def switch(moment, plan):
+    return record(4, plan, 0, moment)
+
+
 def option(moment):
     return record(5, 0, 0, moment)
 

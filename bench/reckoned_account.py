@@ -1,6 +1,6 @@
 """An account reckoned by the rules of docs/RULES.md, docs/TARIFFS.md and docs/CALENDAR.md, and by nothing of the engine.
 
-It makes top-ups, uses, options and day marks.
+It makes all six calls, with room for 31 old lots of each unit.
 """
 
 import calendar
@@ -28,6 +28,38 @@ PLANS = {
     22: (60_000, (0, 30_720, 0), 25, False, True),
 }
 PRICE_ABROAD = 1_000
+MOST_LOTS = 31
+MOST_OLD_UNITS = 2_000_000_000
+WIPED_BY_RESTART = (True, True, False)
+
+
+def entry(source, target):
+    """The price of entering a plan from another and whether units left are kept; None where no way leads there."""
+    doimiy, sof = range(1, 7), range(11, 17)
+    if target in doimiy:
+        if source in doimiy and source != target:
+            return (0, True) if source < target else (2_105, False)
+        if source in sof or source == 21:
+            return (0, False)
+        if source == 22:
+            return (2_105, False) if target <= 3 else (0, False)
+    if target in sof:
+        if source in sof and source != target:
+            return (0, True) if source < target else (2_105, False)
+        if source == 21:
+            return (0, True)
+        if source == 22:
+            return (2_105, False) if target <= 14 else (0, True)
+    if target == 21 and (source in doimiy or source in sof or source == 22):
+        return (2_105, False)
+    if target == 22:
+        if source in (4, 5, 6):
+            return (2_105, False)
+        if source in (1, 2, 3) or source in sof:
+            return (0, False)
+        if source == 21:
+            return (0, True)
+    return None
 
 
 class Refusal(Exception):
@@ -54,19 +86,25 @@ class Account:
     def __init__(self, plan, moment):
         refuse_if(moment > LAST_MOMENT, 1)
         refuse_if(plan not in PLANS, 4)
-        self.fee, self.amounts, self.beyond, self.carries, self.megabytes_alone = PLANS[plan]
+        self.take_plan(plan)
         self.latest = moment
         self.balance = 0
         self.due = None
         self.anchor = None
+        self.last_fee = None
         self.option = False
         self.fresh = [0, 0, 0]
         self.lots = [[], [], []]
-        self.fees = self.charges = 0
+        self.fees = self.charges = self.entries = 0
+
+    def take_plan(self, plan):
+        self.plan = plan
+        self.fee, self.amounts, self.beyond, self.carries, self.megabytes_alone = PLANS[plan]
 
     def take_fee(self, day):
         self.balance -= self.fee
         self.fees += self.fee
+        self.last_fee = day
         self.due = due_after(day, self.anchor)
         self.option = False
         self.fresh = list(self.amounts)
@@ -109,8 +147,44 @@ class Account:
         refuse_if(self.balance + sums > 1_000_000_000, 11)
         self.balance += sums
         if self.due is None and self.balance >= self.fee:
-            self.anchor = date_of(day).day
-            self.take_fee(day)
+            self.start(day)
+
+    def start(self, day):
+        self.anchor = date_of(day).day
+        self.take_fee(day)
+
+    def leave_books(self, day, wiped):
+        """Clears the wiped units; sets the others aside until the due day, at most until the new one."""
+        cap = due_after(day, date_of(day).day)
+        for unit in range(3):
+            lots = {}
+            if not wiped[unit]:
+                for amount, end in self.lots[unit] + [(self.fresh[unit], self.due)]:
+                    if amount:
+                        lots[min(end, cap)] = lots.get(min(end, cap), 0) + amount
+            refuse_if(len(lots) > MOST_LOTS or sum(lots.values()) > MOST_OLD_UNITS, 12)
+            self.lots[unit] = [(lots[end], end) for end in sorted(lots)]
+            self.fresh[unit] = 0
+
+    def restart(self, day):
+        refuse_if(self.due is None, 6)
+        refuse_if(self.last_fee == day, 8)
+        refuse_if(self.balance < self.fee, 10)
+        self.leave_books(day, WIPED_BY_RESTART)
+        self.start(day)
+
+    def switch(self, day, plan):
+        refuse_if(plan not in PLANS, 4)
+        way = entry(self.plan, plan)
+        refuse_if(way is None, 5)
+        price, kept = way
+        refuse_if(self.balance < price + PLANS[plan][0], 10)
+        self.balance -= price
+        self.entries += price
+        if self.due is not None:
+            self.leave_books(day, (not kept,) * 3)
+        self.take_plan(plan)
+        self.start(day)
 
     def use(self, day, service, count):
         refuse_if(not 1 <= count <= 1_000_000, 3)
@@ -140,7 +214,7 @@ class Account:
         refuse_if(moment > LAST_MOMENT, 1)
         refuse_if(moment < self.latest, 2)
         after = copy.deepcopy(self)
-        after.fees = after.charges = 0
+        after.fees = after.charges = after.entries = 0
         after.bring_up(moment // 1_440)
         getattr(after, name)(moment // 1_440, *words)
         after.latest = moment

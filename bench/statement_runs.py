@@ -13,8 +13,6 @@ from event_files import ABROAD, MEGABYTES, MESSAGES, MINUTES
 from reckoned_account import FIRST_DAY, Account, Refusal, date_of
 
 FOLDER = "crates/statement_runs"
-RESTART = event_files.record(3, 0, 0, 600)
-SWITCH = event_files.record(4, 12, 0, 600)
 
 
 def at(year, month, day, hour=0, minute=0):
@@ -30,41 +28,37 @@ def as_bytes(record):
     make = {
         "top_up": event_files.top_up,
         "use": event_files.use,
+        "restart": event_files.restart,
+        "switch": event_files.switch,
         "turn_on_option": event_files.option,
         "mark_day": event_files.day_mark,
     }[name]
     return make(moment, *words)
 
 
-def stops(record):
-    return record in (RESTART, SWITCH)
-
-
-def statement(plan, opened, records, before):
+def statement(plan, opened, records):
     try:
         account = Account(plan, opened)
     except Refusal as refusal:
         return f"refused {refusal.args[0]}\n"
     lines = ""
     for index, record in enumerate(records):
-        number = fees = charges = 0
+        number = fees = charges = entries = 0
         if isinstance(record, bytes):
-            if stops(record):
-                return f"stopped at record {index}, offset {len(before) + 16 * index}\n"
             number = 14
         else:
             try:
                 account = account.call(*record)
-                fees, charges = account.fees, account.charges
+                fees, charges, entries = account.fees, account.charges, account.entries
             except Refusal as refusal:
                 number = refusal.args[0]
-        lines += f"{index} {number} {fees} {charges} 0 {account.balance}\n"
+        lines += f"{index} {number} {fees} {charges} {entries} {account.balance}\n"
     return lines + ("blocked\n" if account.due is None else f"due {date_of(account.due)}\n")
 
 
 def right(plan, opened, records, before=b""):
     file = event_files.event_file(plan, opened, [as_bytes(record) for record in records], before)
-    return file, statement(plan, opened, records, before)
+    return file, statement(plan, opened, records)
 
 
 def wrong(file):
@@ -183,6 +177,85 @@ WRONG_RECORDS = [
     (0, "mark_day"),
 ]
 
+RESTARTS = [
+    (at(2023, 5, 1, 8), "restart"),
+    (at(2023, 5, 1, 9), "top_up", 200_000),
+    (at(2023, 5, 1, 10), "restart"),
+    (at(2023, 5, 9), "use", MESSAGES, 100),
+    (at(2023, 5, 10), "restart"),
+    (at(2023, 5, 11), "restart"),
+    (at(2023, 5, 12), "restart"),
+    (at(2023, 5, 12), "restart"),
+    (at(2023, 5, 13), "use", MESSAGES, 1_900),
+    (at(2023, 6, 12), "restart"),
+    (at(2023, 6, 13), "restart"),
+    (at(2023, 7, 13), "restart"),
+    (at(2023, 8, 13), "top_up", 300_000),
+    (at(2023, 9, 13), "use", MESSAGES, 1_001),
+    (at(2023, 9, 14), "restart"),
+    (at(2023, 9, 15), "use", MESSAGES, 1),
+]
+
+SWITCHES = [
+    (at(2023, 1, 31), "switch", 21),
+    (at(2023, 1, 31), "switch", 7),
+    (at(2023, 1, 31), "switch", 1),
+    (at(2023, 1, 31), "top_up", 20_000),
+    (at(2023, 2, 27), "switch", 22),
+    (at(2023, 2, 27), "top_up", 500_000),
+    (at(2023, 2, 28), "switch", 11),
+    (at(2023, 3, 28), "switch", 12),
+    (at(2023, 3, 28), "switch", 13),
+    (at(2023, 3, 29), "switch", 12),
+    (at(2023, 4, 29), "use", MEGABYTES, 7_169),
+    (at(2023, 4, 30), "switch", 1),
+    (at(2023, 4, 30), "switch", 2),
+    (at(2023, 5, 2), "switch", 21),
+    (at(2023, 5, 3), "switch", 22),
+    (at(2023, 5, 3), "use", MINUTES, 1),
+    (at(2023, 5, 4), "switch", 15),
+    (at(2023, 5, 5), "use", MINUTES, 1),
+    (at(2023, 5, 6), "switch", 14),
+    (at(2023, 6, 6), "switch", 14),
+    (at(2023, 7, 6), "top_up", 100_000),
+    (at(2023, 7, 7), "switch", 13),
+    (at(2023, 12, 31), "mark_day"),
+]
+
+
+def decades():
+    records = [(at(2001, 1, 31, 12), "top_up", 10_000_000)]
+    plans = (12, 13, 14, 13, 15, 16, 11)
+    for year in range(2001, 2081):
+        records += [
+            (at(year, 2, 28, 23, 59), "use", MINUTES, 700),
+            (at(year, 3, 31), "use", MEGABYTES, 3_000),
+            (at(year, 5, 10), "restart"),
+            (at(year, 5, 11), "restart"),
+            (at(year, 5, 12), "use", MESSAGES, 900),
+            (at(year, 8, 30, 6), "switch", plans[year % 7]),
+            (at(year, 8, 31, 6), "use", ABROAD, 3),
+            (at(year, 12, 30), "turn_on_option"),
+            (at(year, 12, 31), "use", MEGABYTES, 60_000),
+        ]
+        if year % 5 == 0:
+            records.append((at(year, 12, 31, 23, 59), "top_up", 2_000_000))
+    return records
+
+
+def marked_daily(records):
+    """The same calls of three years, with a day mark at the start of each day between two of them."""
+    marked = []
+    for record in records:
+        if marked and record[0] < at(2004, 1, 1):
+            for day in range(marked[-1][0] // 1_440 + 1, record[0] // 1_440 + 1):
+                marked.append((day * 1_440, "mark_day"))
+        marked.append(record)
+    return marked
+
+
+DECADES = decades()
+
 CASES = {
     "no-records": right(1, 0, []),
     "opened-too-late": right(1, 52_596_000, [(0, "top_up", 20_000)]),
@@ -207,8 +280,10 @@ CASES = {
     "every-refusal": right(1, 600, EVERY_REFUSAL),
     "full-balance": right(1, 0, FULL),
     "only-megabytes": right(22, 0, ONLY_MEGABYTES),
-    "stopped-at-a-restart": right(1, 0, [(600, "top_up", 50_000), RESTART], b"abc"),
-    "stopped-at-a-switch": right(1, 0, [(600, "top_up", 50_000), (600, "mark_day"), SWITCH]),
+    "restarts": right(1, at(2023, 5, 1), RESTARTS, b"abc"),
+    "switches": right(21, at(2023, 1, 31), SWITCHES),
+    "decades": right(11, at(2001, 1, 31), DECADES),
+    "decades-marked-daily": right(11, at(2001, 1, 31), marked_daily(DECADES)),
 }
 
 

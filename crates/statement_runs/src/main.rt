@@ -23,11 +23,6 @@ fn print_statement(rt: &LibcRuntime, name: &str) -> Result<(), AnyError> {
     println!(rt, "{name}")?;
     match statement(rt.alloc(), &file, three_lines(), books) {
         Ok(text) => rt.print(text)?,
-        Err(NoStatement::NotRunYet(place)) => {
-            let index = place.index;
-            let offset = place.offset;
-            println!(rt, "stopped at record {index}, offset {offset}")?;
-        }
         Err(NoStatement::PastCalendar) => return Err("the due day is past the calendar".into()),
         Err(NoStatement::NoMemory) => return Err("no memory".into()),
     }
