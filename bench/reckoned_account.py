@@ -1,6 +1,6 @@
 """An account reckoned by the rules of docs/RULES.md, docs/TARIFFS.md and docs/CALENDAR.md, and by nothing of the engine.
 
-It makes all six calls, with room for 31 old lots of each unit.
+It makes all six calls, with room for as many old lots of each unit as it is told.
 """
 
 import calendar
@@ -28,7 +28,6 @@ PLANS = {
     22: (60_000, (0, 30_720, 0), 25, False, True),
 }
 PRICE_ABROAD = 1_000
-MOST_LOTS = 31
 MOST_OLD_UNITS = 2_000_000_000
 WIPED_BY_RESTART = (True, True, False)
 
@@ -83,10 +82,11 @@ def due_after(day, anchor):
 
 
 class Account:
-    def __init__(self, plan, moment):
+    def __init__(self, plan, moment, most_lots):
         refuse_if(moment > LAST_MOMENT, 1)
         refuse_if(plan not in PLANS, 4)
         self.take_plan(plan)
+        self.most_lots = most_lots
         self.latest = moment
         self.balance = 0
         self.due = None
@@ -162,7 +162,7 @@ class Account:
                 for amount, end in self.lots[unit] + [(self.fresh[unit], self.due)]:
                     if amount:
                         lots[min(end, cap)] = lots.get(min(end, cap), 0) + amount
-            refuse_if(len(lots) > MOST_LOTS or sum(lots.values()) > MOST_OLD_UNITS, 12)
+            refuse_if(len(lots) > self.most_lots or sum(lots.values()) > MOST_OLD_UNITS, 12)
             self.lots[unit] = [(lots[end], end) for end in sorted(lots)]
             self.fresh[unit] = 0
 

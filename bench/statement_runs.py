@@ -13,6 +13,7 @@ from event_files import ABROAD, MEGABYTES, MESSAGES, MINUTES
 from reckoned_account import FIRST_DAY, Account, Refusal, date_of
 
 FOLDER = "crates/statement_runs"
+TABLE_LOTS, SMALL_LOTS = 31, 1
 
 
 def at(year, month, day, hour=0, minute=0):
@@ -36,9 +37,9 @@ def as_bytes(record):
     return make(moment, *words)
 
 
-def statement(plan, opened, records):
+def statement(plan, opened, records, most_lots):
     try:
-        account = Account(plan, opened)
+        account = Account(plan, opened, most_lots)
     except Refusal as refusal:
         return f"refused {refusal.args[0]}\n"
     lines = ""
@@ -56,9 +57,49 @@ def statement(plan, opened, records):
     return lines + ("blocked\n" if account.due is None else f"due {date_of(account.due)}\n")
 
 
-def right(plan, opened, records, before=b""):
+def read(file):
+    """The plan, the opening moment and the records of a file; None where the file is wrong."""
+    if not 16 <= len(file) <= 65_536:
+        return None
+    first, count, plan, spare, more, opened = struct.unpack("<IIBBHI", file[-16:])
+    if spare or more or first + 16 * count != len(file) - 16:
+        return None
+    return plan, opened, [read_record(file[first + 16 * k : first + 16 * k + 16]) for k in range(count)]
+
+
+def read_record(record):
+    """A record as a moment, a call and its words; the bytes themselves where the record is wrong."""
+    kind, code, spare, amount, moment, more = struct.unpack("<BBHIII", record)
+    unused = {1: code, 2: 0, 3: code or amount, 4: amount, 5: code or amount, 6: code or amount}
+    if spare or more or unused.get(kind, 1):
+        return record
+    return (
+        moment,
+        *{
+            1: ("top_up", amount),
+            2: ("use", code, amount),
+            3: ("restart",),
+            4: ("switch", code),
+            5: ("turn_on_option",),
+            6: ("mark_day",),
+        }[kind],
+    )
+
+
+def as_read(file, most_lots=TABLE_LOTS):
+    found = read(file)
+    return (file, statement(*found, most_lots)) if found else wrong(file)
+
+
+def damaged(file):
+    """The file with each byte of its last record and of its trailer changed in turn."""
+    for place in range(len(file) - 32, len(file)):
+        yield file[:place] + bytes([file[place] ^ 1]) + file[place + 1 :]
+
+
+def right(plan, opened, records, before=b"", most_lots=TABLE_LOTS):
     file = event_files.event_file(plan, opened, [as_bytes(record) for record in records], before)
-    return file, statement(plan, opened, records)
+    return file, statement(plan, opened, records, most_lots)
 
 
 def wrong(file):
@@ -282,15 +323,26 @@ CASES = {
     "only-megabytes": right(22, 0, ONLY_MEGABYTES),
     "restarts": right(1, at(2023, 5, 1), RESTARTS, b"abc"),
     "switches": right(21, at(2023, 1, 31), SWITCHES),
+    # on small books, with room for one old lot: 12 at the second of two Restarts with messages left on both days
+    "small-restarts": right(1, at(2023, 5, 1), RESTARTS, most_lots=SMALL_LOTS),
+    "small-switches": right(21, at(2023, 1, 31), SWITCHES, most_lots=SMALL_LOTS),
+    "small-decades": right(11, at(2001, 1, 31), DECADES, most_lots=SMALL_LOTS),
     "decades": right(11, at(2001, 1, 31), DECADES),
     "decades-marked-daily": right(11, at(2001, 1, 31), marked_daily(DECADES)),
 }
+
+# each byte of the layout damaged in turn: of a record that uses byte 1 and the amount, and of one that uses neither
+for kind, record in {"use": (900, "use", MESSAGES, 70), "restart": (1_500, "restart")}.items():
+    whole = right(1, 600, [(700, "top_up", 90_000), record])[0]
+    for place, file in enumerate(damaged(whole)):
+        CASES[f"{kind}-damaged-at-{place}"] = as_read(file)
 
 
 def main():
     os.makedirs(f"{FOLDER}/data", exist_ok=True)
     assert len(CASES["65536-bytes"][0]) == 65_536 and len(CASES["65537-bytes"][0]) == 65_537
-    for name, (file, _) in CASES.items():
+    for name, (file, lines) in CASES.items():
+        assert as_read(file, SMALL_LOTS if name.startswith("small-") else TABLE_LOTS)[1] == lines
         with open(f"{FOLDER}/data/{name}", "wb") as out:
             out.write(file)
     with open(f"{FOLDER}/args", "w") as out:

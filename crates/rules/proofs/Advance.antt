@@ -11,6 +11,7 @@ use Rattle.quantities.specs.Units.{each}
 use Rattle.quantities.specs.declared.time.Day.{Day}
 use Rattle.tariff.specs.Terms.{carries-unit}
 use Rattle.book.specs.Allowance.{Allowance, units, left, ended, lasting}
+use Rattle.book.proofs.Lots.{units-parts, lasting-again, ended-again}
 use Rattle.rules.specs.declared.call.Status.{Status}
 use Rattle.rules.specs.declared.call.Status.the-variants.{Blocked as blocked, Active as active}
 use Rattle.rules.specs.Receipt.{_⊞_, ending, units-only}
@@ -18,7 +19,6 @@ use Rattle.rules.specs.State.{Calendar, State, Out, awaited-fee, anchor-day, s
 use Rattle.rules.specs.DueDays.{next-due, take-fee, close-month, handle, renew, block, settle, lapse-all, bring-up}
 use Rattle.rules.specs.Laws.{Bringing-up-joins}
 use Rattle.rules.proofs.Receipts.{after-nothing, then-assoc, then-by}
-use Rattle.rules.proofs.Books.{lapse-parts, lasting-twice, lapse-twice}
 
 -- ## Due days rise
 
@@ -117,8 +117,8 @@ ended-then a b c l e = λ i. record { granted = 0; within = 0; beyond = 0; ended
 
 closed-sum : (c : Bool) (D : ℕ) (b : Allowance) →
     units (ended D (b .lots)) + cond c (units (lasting D (b .lots))) (b .fresh + units (lasting D (b .lots))) ≡ cond c (units (b .lots)) (left b)
-closed-sum true D b = lapse-parts D (b .lots)
-closed-sum false D b = omega (arith, lapse-parts D (b .lots))
+closed-sum true D b = units-parts D (b .lots)
+closed-sum false D b = omega (arith, units-parts D (b .lots))
 
 module _ (D : ℕ) (s : State) where
   close-absorbs : (e : ℕ) → then (lapse-all D s) (close-month e) ≡ close-month e s
@@ -130,13 +130,13 @@ module _ (D : ℕ) (s : State) where
   block-absorbs : then (lapse-all D s) block ≡ block s
   block-absorbs = λ i. record {
     state = block s .state;
-    receipt = units-only (each (λ k b. ended-then _ _ _ (b .fresh) (lapse-parts D (b .lots)) i) (s .books));
+    receipt = units-only (each (λ k b. ended-then _ _ _ (b .fresh) (units-parts D (b .lots)) i) (s .books));
   }
 
   lapse-absorbs : (E : ℕ) → D ≤ E → then (lapse-all D s) (lapse-all E) ≡ lapse-all E s
   lapse-absorbs E l = λ i. record {
-    state = with-books (each (λ k b. record { fresh = b .fresh; lots = lasting-twice D E l (b .lots) i }) (s .books)) s;
-    receipt = units-only (each (λ k b. ended-then _ _ _ 0 (lapse-twice D E l (b .lots)) i) (s .books));
+    state = with-books (each (λ k b. record { fresh = b .fresh; lots = lasting-again D E (b .lots) l i }) (s .books)) s;
+    receipt = units-only (each (λ k b. ended-then _ _ _ 0 (ended-again D E (b .lots) l) i) (s .books));
   }
 
   handle-absorbs : (w : Calendar) (d : ℕ) → then (lapse-all D s) (handle w d) ≡ handle w d s

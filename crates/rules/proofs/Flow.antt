@@ -12,7 +12,8 @@ use Rattle.book.specs.Allowance.{Allowance, units, left, empty, ended, lapsed, 
 use Rattle.rules.specs.Receipt.{Tally, _⊞_, none, granting, used, ending, wiping-by-restart, wiping-by-switch}
 use Rattle.rules.specs.State.{units-gone}
 use Rattle.rules.specs.DueDays.{refilled, granted, closed, closing}
-use Rattle.rules.proofs.Books.{lapse-parts, lot-sum, draw-sum, aside-sum}
+use Rattle.book.proofs.Lots.{units-parts, units-lot}
+use Rattle.book.proofs.Laws.{draw-sum, aside-sum}
 
 -- ## One book
 
@@ -30,10 +31,10 @@ pub flow-fill : (n : ℕ) (b : Allowance) → Flow b (refilled n b) (granting (g
 flow-fill n b = grind (arith, tells)
 
 pub flow-lapse : (D : ℕ) (b : Allowance) → Flow b (lapsed D b) (ending (units (ended D (b .lots))) 0)
-flow-lapse D b = omega (arith, lapse-parts D (b .lots))
+flow-lapse D b = omega (arith, units-parts D (b .lots))
 
 pub flow-close : (c : Bool) (e : ℕ) (b : Allowance) → Flow b (closed c e b) (closing c b)
-flow-close true e b = omega (arith, lot-sum (b .fresh) e)
+flow-close true e b = omega (arith, units-lot (b .fresh) e)
 flow-close false e b = omega arith
 
 pub flow-block : (b : Allowance) → Flow b empty (ending (units (b .lots)) (b .fresh))

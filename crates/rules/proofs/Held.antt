@@ -11,7 +11,7 @@ use Rattle.quantities.specs.Limits.{most-grant, most-old-units}
 use Rattle.book.specs.declared.fault.BookFault.{BookFault}
 use Rattle.book.specs.Allowance.{Allowance, units, empty, lapsed, drawn, aside, aside-answer}
 use Rattle.rules.specs.DueDays.{refilled, closed}
-use Rattle.rules.proofs.Books.{lapse-parts, lot-sum, undrawn-sum}
+use Rattle.book.proofs.Lots.{units-parts, units-lot, units-undrawn}
 
 -- the fresh amount and the old units within their limits
 pub record Held (b : Allowance) : Type 0 where
@@ -25,14 +25,14 @@ pub held-fill : (n : ℕ) (b : Allowance) → Held b → Held (refilled n b)
 held-fill n b h = record { fresh = grind (arith, tells); old = grind (arith, tells) }
 
 pub held-lapse : (D : ℕ) (b : Allowance) → Held b → Held (lapsed D b)
-held-lapse D b h = record { fresh = h .fresh; old = omega (arith, lapse-parts D (b .lots)) }
+held-lapse D b h = record { fresh = h .fresh; old = omega (arith, units-parts D (b .lots)) }
 
 pub held-close : (c : Bool) (e : ℕ) (b : Allowance) → Held b → Held (closed c e b)
-held-close true e b h = record { fresh = omega arith; old = omega (arith, lot-sum (b .fresh) e) }
+held-close true e b h = record { fresh = omega arith; old = omega (arith, units-lot (b .fresh) e) }
 held-close false e b h = held-empty
 
 pub held-draw : (n : ℕ) (b : Allowance) → Held b → Held (drawn n b)
-held-draw n b h = record { fresh = omega arith; old = omega (arith, undrawn-sum n (b .lots)) }
+held-draw n b h = record { fresh = omega arith; old = omega (arith, units-undrawn n (b .lots)) }
 
 -- a book that is set aside, and doesn't refuse it
 pub held-aside : (C : ℕ) (x : Bool) (e c : ℕ) (b : Allowance) → cond {A = Option BookFault} x None (elim (aside-answer C e c b) [ Ok u ↦ None | Err f ↦ Some f ]) ≡ None →

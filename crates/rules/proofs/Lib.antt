@@ -1,5 +1,4 @@
 pub mod Receipts
-pub mod Books
 pub mod Advance
 pub mod Steps
 pub mod Marks
