@@ -16,7 +16,11 @@ use table_book::operations::TableBook;
 use table_book::table::Table;
 use tariff::both::BothLine;
 
-fn print_statement<B: Book + Drop>(rt: &LibcRuntime, name: &str, books: PerUnit<B>) -> Result<(), AnyError> {
+fn print_statement<B: Book + Drop>(
+    rt: &LibcRuntime,
+    name: &str,
+    books: PerUnit<B>,
+) -> Result<(), AnyError> {
     let file = fs::read(rt, name)?;
     println!(rt, "{name}")?;
     match statement(rt.alloc(), &file, three_lines(), books) {
