@@ -61,6 +61,10 @@ def entry(source, target):
     return None
 
 
+# the columns of a receipt for each unit
+GRANTED, WITHIN, BEYOND, ENDED, LATE, BY_RESTART, BY_SWITCH = range(7)
+
+
 class Refusal(Exception):
     """A refusal, with its number."""
 
@@ -95,7 +99,18 @@ class Account:
         self.option = False
         self.fresh = [0, 0, 0]
         self.lots = [[], [], []]
+        self.clear_receipt()
+
+    def clear_receipt(self):
         self.fees = self.charges = self.entries = 0
+        self.columns = [[0] * 7 for _ in range(3)]
+
+    def tell(self, column, counts):
+        for unit in range(3):
+            self.columns[unit][column] += counts[unit]
+
+    def old(self):
+        return [sum(amount for amount, _ in lots) for lots in self.lots]
 
     def take_plan(self, plan):
         self.plan = plan
@@ -108,9 +123,12 @@ class Account:
         self.due = due_after(day, self.anchor)
         self.option = False
         self.fresh = list(self.amounts)
+        self.tell(GRANTED, self.amounts)
 
     def handle(self, day):
+        self.tell(ENDED, self.old())
         if self.balance < self.fee:
+            self.tell(LATE, self.fresh)
             self.due = None
             self.fresh, self.lots = [0, 0, 0], [[], [], []]
             return
@@ -118,13 +136,16 @@ class Account:
             end = due_after(day, self.anchor)
             self.lots = [[(amount, end)] if amount else [] for amount in self.fresh]
         else:
+            self.tell(ENDED, self.fresh)
             self.lots = [[], [], []]
         self.take_fee(day)
 
     def bring_up(self, day):
         while self.due is not None and self.due <= day:
             self.handle(self.due)
+        before = self.old()
         self.lots = [[(amount, end) for amount, end in lots if end > day] for lots in self.lots]
+        self.tell(ENDED, [was - now for was, now in zip(before, self.old())])
 
     def offers(self, service):
         return service == 2 or (service in (1, 3, 4) and not self.megabytes_alone)
@@ -153,9 +174,10 @@ class Account:
         self.anchor = date_of(day).day
         self.take_fee(day)
 
-    def leave_books(self, day, wiped):
+    def leave_books(self, day, wiped, column):
         """Clears the wiped units; sets the others aside until the due day, at most until the new one."""
         cap = due_after(day, date_of(day).day)
+        self.tell(column, [self.left(unit) if wiped[unit] else 0 for unit in range(3)])
         for unit in range(3):
             lots = {}
             if not wiped[unit]:
@@ -170,7 +192,7 @@ class Account:
         refuse_if(self.due is None, 6)
         refuse_if(self.last_fee == day, 8)
         refuse_if(self.balance < self.fee, 10)
-        self.leave_books(day, WIPED_BY_RESTART)
+        self.leave_books(day, WIPED_BY_RESTART, BY_RESTART)
         self.start(day)
 
     def switch(self, day, plan):
@@ -182,7 +204,7 @@ class Account:
         self.balance -= price
         self.entries += price
         if self.due is not None:
-            self.leave_books(day, (not kept,) * 3)
+            self.leave_books(day, (not kept,) * 3, BY_SWITCH)
         self.take_plan(plan)
         self.start(day)
 
@@ -198,6 +220,8 @@ class Account:
             charge = max(0, count - left) * self.beyond
         refuse_if(self.balance < charge, 10)
         if service != 4:
+            self.columns[service - 1][WITHIN] += min(count, left)
+            self.columns[service - 1][BEYOND] += max(0, count - left)
             self.draw(service - 1, count)
         self.balance -= charge
         self.charges += charge
@@ -214,7 +238,7 @@ class Account:
         refuse_if(moment > LAST_MOMENT, 1)
         refuse_if(moment < self.latest, 2)
         after = copy.deepcopy(self)
-        after.fees = after.charges = after.entries = 0
+        after.clear_receipt()
         after.bring_up(moment // 1_440)
         getattr(after, name)(moment // 1_440, *words)
         after.latest = moment
