@@ -59,6 +59,8 @@ worked = record {
   late-fee = refl;
   restart-paid = refl;
   restart-unpaid = refl;
+  option-on = refl;
+  option-off = refl;
   kept-lowered = refl;
 }
 

@@ -11,7 +11,7 @@ use Rattle.tariff.specs.Terms.{UnitTerms, Terms, Entry, Lawful}
 use Rattle.tariff.specs.declared.terms.Fate.the-variants.{Kept}
 use Rattle.rules.specs.declared.call.Status.the-variants.{Active as active}
 use Rattle.rules.specs.declared.call.Call.{Call}
-use Rattle.rules.specs.declared.call.Call.the-variants.{TopUp as top-up, Restart as restart, Switch as switch}
+use Rattle.rules.specs.declared.call.Call.the-variants.{TopUp as top-up, Restart as restart, Switch as switch, MegabyteOption as option, DayMark as day-mark}
 use Rattle.rules.specs.declared.call.Event.{Event}
 use Rattle.rules.specs.State.{World, Account}
 use Rattle.rules.specs.Checks.{Refusal}
@@ -59,6 +59,9 @@ pub record Worked (w : World) : Type 0 where
   -- A Restart on a due day that is paid meets the fee of that day; on one that isn't, a blocked account.
   pub restart-paid : told-number (step w (started w 30 20) (on-day 59 restart) .outcome) ≡ 8
   pub restart-unpaid : told-number (step w (started w 30 10) (on-day 59 restart) .outcome) ≡ 6
+  -- The option lasts until the next fee, and no longer.
+  pub option-on : step w (started w 30 20) (on-day 30 option) .account .state .option ≡ true
+  pub option-off : step w (step w (started w 30 20) (on-day 30 option) .account) (on-day 59 day-mark) .account .state .option ≡ false
   -- A renewal on 29 February carries to 31 March, day 90. A switch on that day has its due day on 29 March, day 88, so
   -- what it keeps ends there: the carried lot and the fresh amount are joined.
   pub kept-lowered :
