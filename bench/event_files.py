@@ -3,6 +3,7 @@
 Run it in the root of the repository: it writes samples/worked.events, and the same bytes to crates/statement/stdin.
 """
 
+import os
 import struct
 
 MINUTES, MEGABYTES, MESSAGES, ABROAD = 1, 2, 3, 4
@@ -39,6 +40,18 @@ def day_mark(moment):
 def event_file(plan, moment, records, before=b""):
     trailer = struct.pack("<IIBBHI", len(before), len(records), plan, 0, 0, moment)
     return before + b"".join(records) + trailer
+
+
+def write_crate(folder, cases):
+    """Writes data/, args and stdout of a program's crate from its cases: a name, a file, and what is printed of it."""
+    os.makedirs(f"{folder}/data", exist_ok=True)
+    for name, (file, _) in cases.items():
+        with open(f"{folder}/data/{name}", "wb") as out:
+            out.write(file)
+    with open(f"{folder}/args", "w") as out:
+        out.write("".join(f"{name}\n" for name in cases))
+    with open(f"{folder}/stdout", "w") as out:
+        out.write("".join(f"{name}\n{lines}" for name, (_, lines) in cases.items()))
 
 
 WORKED = event_file(

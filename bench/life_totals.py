@@ -4,8 +4,6 @@ The same calls are looked at as they are, once a year and every day: totals and 
 reckoned_account.py. Run it in the root of the repository: it writes data/, args and stdout of that crate.
 """
 
-import os
-
 import event_files
 from reckoned_account import Account, Refusal, date_of
 from statement_runs import DECADES, RESTARTS, SWITCHES, TABLE_LOTS, as_bytes, at
@@ -66,16 +64,5 @@ for name, (plan, opened, records) in LIVES.items():
     assert CASES[name][1] == CASES[f"{name}-once-a-year"][1] == CASES[f"{name}-every-day"][1]
 
 
-def main():
-    os.makedirs(f"{FOLDER}/data", exist_ok=True)
-    for name, (file, _) in CASES.items():
-        with open(f"{FOLDER}/data/{name}", "wb") as out:
-            out.write(file)
-    with open(f"{FOLDER}/args", "w") as out:
-        out.write("".join(f"{name}\n" for name in CASES))
-    with open(f"{FOLDER}/stdout", "w") as out:
-        out.write("".join(f"{name}\n{lines}" for name, (_, lines) in CASES.items()))
-
-
 if __name__ == "__main__":
-    main()
+    event_files.write_crate(FOLDER, CASES)

@@ -5,7 +5,6 @@ repository: it writes data/, args and stdout of that crate.
 """
 
 import datetime
-import os
 import struct
 
 import event_files
@@ -339,16 +338,10 @@ for kind, record in {"use": (900, "use", MESSAGES, 70), "restart": (1_500, "rest
 
 
 def main():
-    os.makedirs(f"{FOLDER}/data", exist_ok=True)
     assert len(CASES["65536-bytes"][0]) == 65_536 and len(CASES["65537-bytes"][0]) == 65_537
     for name, (file, lines) in CASES.items():
         assert as_read(file, SMALL_LOTS if name.startswith("small-") else TABLE_LOTS)[1] == lines
-        with open(f"{FOLDER}/data/{name}", "wb") as out:
-            out.write(file)
-    with open(f"{FOLDER}/args", "w") as out:
-        out.write("".join(f"{name}\n" for name in CASES))
-    with open(f"{FOLDER}/stdout", "w") as out:
-        out.write("".join(f"{name}\n{lines}" for name, (_, lines) in CASES.items()))
+    event_files.write_crate(FOLDER, CASES)
 
 
 if __name__ == "__main__":
