@@ -1,4 +1,6 @@
 // An account: opened on a plan, changed by calls, asked by questions.
+#![tactic(auto)]
+
 pub mod account;
 pub mod act;
 pub mod calls;

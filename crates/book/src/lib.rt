@@ -1,4 +1,6 @@
 // The allowance book: one meaning for every kind of book.
+#![tactic(auto)]
+
 pub mod answers;
 pub mod fault;
 pub mod lot;

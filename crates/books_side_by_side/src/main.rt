@@ -1,5 +1,7 @@
 // Drives the table book and the small book through the same steps, side by side: a line for each step says what each
 // book answered and holds, and whether they are the same, or apart since the small one refused what the table accepted.
+#![tactic(auto)]
+
 mod driver;
 mod script;
 mod shown;

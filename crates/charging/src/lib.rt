@@ -1,4 +1,6 @@
 // The engine for hosts in C: an event file's totals and postings as rows of numbers, in memory that the host lends.
+#![tactic(auto)]
+
 mod answer;
 mod choice;
 pub mod export;

@@ -1,4 +1,6 @@
 // The event file: its trailer, its records, and why a file or a record is refused.
+#![tactic(auto)]
+
 pub mod fault;
 pub mod reader;
 pub mod record;

@@ -1,4 +1,6 @@
 // The run over an event file: it opens the account that the file names and makes the call of each record.
+#![tactic(auto)]
+
 mod post;
 pub mod posted;
 pub mod run;

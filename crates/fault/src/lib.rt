@@ -1,2 +1,4 @@
 // Refusals: their cases, numbers and layers.
+#![tactic(auto)]
+
 pub mod account;

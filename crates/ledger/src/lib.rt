@@ -1,4 +1,6 @@
 // The ledger of an account: the fee, due days, and bringing up to a day.
+#![tactic(auto)]
+
 mod books;
 pub mod bring_up;
 pub mod dates;

@@ -1,4 +1,6 @@
 // Prints, for each event file that its arguments name, the totals of all receipts and how the account ends.
+#![tactic(auto)]
+
 use anyhow::anyhow;
 use event_run::posted::Posted;
 use event_run::run::run_file;

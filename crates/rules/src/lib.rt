@@ -1,4 +1,6 @@
 // The rules of an account: what each call does and refuses, as definitions, and the laws over every run of calls.
+#![tactic(auto)]
+
 ghost use Rattle.rules.specs.Laws.{MoneyCloses, UnitsClose, DayMarkFree, BringingUpJoins, RefusalChangesNothing};
 
 pub mod bounds;

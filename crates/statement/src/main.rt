@@ -1,4 +1,6 @@
 // Reads an event file from standard input and prints its statement: what became of each record, and of the account.
+#![tactic(auto)]
+
 use anyhow::anyhow;
 use plans::three_lines::three_lines;
 use quantities::unit::PerUnit;

@@ -1,4 +1,6 @@
 // Prints the statement of each event file that its arguments name, under the file's name, on table books or small ones.
+#![tactic(auto)]
+
 use anyhow::anyhow;
 use book::meaning::Book;
 use plans::three_lines::three_lines;

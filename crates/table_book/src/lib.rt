@@ -1,4 +1,6 @@
 // The table book: an allowance book with room for 31 old lots.
+#![tactic(auto)]
+
 mod drawing;
 mod gathering;
 mod lots;

@@ -1,4 +1,6 @@
 // Prints the terms of every plan code, and what leads from each plan to each other.
+#![tactic(auto)]
+
 use plans::three_lines::{ThreeLines, three_lines};
 use std::io;
 use tariff::line::Line;
