@@ -10,7 +10,7 @@ pub returns : goal.returns
 returns c =
     let y = c.args.year in
     let m = c.args.month in
-    let f = told (has_month y m) c.in-ok-month.month (place y m) c.in-ok-month.ensures.value in
+    let f = told (has_month y m) c.in_ok-month.month (place y m) c.in_ok-month.ensures.value in
     let q = placed y m (month_parts y m f.0) in
     let l = ap month_length f.1 in
     record { value = telling (has_month y m) _ (days_in y m) f.0 (omega arith) }

@@ -11,8 +11,8 @@ use Rattle.table_book.proofs.Rows.{at, none, length-held}
 use Rattle.table_book.proofs.Places.{goes_on, goes_into, goes_in}
 use Rattle.table_book.proofs.lots.Lots.add.Goals as goal
 
-pub overflow-add-self : goal.overflow-add-self
-overflow-add-self c =
+pub overflow_add-self : goal.overflow_add-self
+overflow_add-self c =
     let s = c.loop-i.self in
     let i = c.loop-i.i in
     let n = ap (λ x. x.len) c.loop-i.invariant.0 in

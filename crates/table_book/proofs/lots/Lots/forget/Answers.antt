@@ -6,4 +6,4 @@ use Rattle.table_book.proofs.lots.Lots.forget.Goals as goal
 pub returns : goal.returns
 returns c =
     let t = c.args.self.now in
-    record { lots = closed t.lots c.copy-within.new.self t.len c.args.gone (omega arith) (omega arith) c.copy-within.ensures.after }
+    record { lots = closed t.lots c.copy_within.new.self t.len c.args.gone (omega arith) (omega arith) c.copy_within.ensures.after }

@@ -8,8 +8,8 @@ use Rattle.table_book.proofs.Rows.{length-held}
 use Rattle.table_book.proofs.Places.{opened}
 use Rattle.table_book.proofs.lots.Lots.insert.Goals as goal
 
-pub returns-then-self-eq-MOST-LOTS : goal.returns-then-self-eq-MOST-LOTS
-returns-then-self-eq-MOST-LOTS c =
+pub returns-then-self-eq-MOST_LOTS : goal.returns-then-self-eq-MOST_LOTS
+returns-then-self-eq-MOST_LOTS c =
     let t = c.args.self.now in
     let n = length-held t in
     let m = length-insert (held t) c.args.at c.args.lot (omega arith) in
@@ -22,5 +22,5 @@ returns c =
     let m = length-insert (held t) c.args.at c.args.lot (omega arith) in
     record {
       answer = sym (le-leb (length (insert (held t) c.args.at c.args.lot)) 31 (omega arith));
-      lots = opened t.lots c.copy-within.new.self t.len c.args.at c.args.lot (omega arith) (omega arith) c.copy-within.ensures.after;
+      lots = opened t.lots c.copy_within.new.self t.len c.args.at c.args.lot (omega arith) (omega arith) c.copy_within.ensures.after;
     }

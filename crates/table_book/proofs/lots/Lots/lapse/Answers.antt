@@ -9,8 +9,8 @@ use Rattle.book.proofs.Lots.{units_kept, units-parts}
 use Rattle.table_book.proofs.Rows.{none, same_at, ended_more, ended_same, length-held}
 use Rattle.table_book.proofs.lots.Lots.lapse.Goals as goal
 
-pub overflow-add-sum : goal.overflow-add-sum
-overflow-add-sum c =
+pub overflow_add-sum : goal.overflow_add-sum
+overflow_add-sum c =
     let t = c.args.self.now in
     let i = c.loop-i.i in
     let day = c.args.day.0 in
@@ -22,8 +22,8 @@ overflow-add-sum c =
     let u = units_kept (λ k. leb k.end.0 day) (held t) in
     omega arith
 
-pub loop-i-preserved-then-ended-by : goal.loop-i-preserved-then-ended-by
-loop-i-preserved-then-ended-by c =
+pub loop-i-preserved-then-ended_by : goal.loop-i-preserved-then-ended_by
+loop-i-preserved-then-ended_by c =
     let t = c.args.self.now in
     let i = c.loop-i.i in
     let ys = c.loop-i.self.lots in

@@ -6,8 +6,8 @@ use Rattle.table_book.specs.Held.{held}
 use Rattle.table_book.proofs.Rows.{at, length-held}
 use Rattle.table_book.proofs.lots.Lots.sum.Goals as goal
 
-pub overflow-add-sum : goal.overflow-add-sum
-overflow-add-sum c = let h = ap units (at c.args.self.now c.loop-i.i (omega arith)) in omega arith
+pub overflow_add-sum : goal.overflow_add-sum
+overflow_add-sum c = let h = ap units (at c.args.self.now c.loop-i.i (omega arith)) in omega arith
 
 pub loop-i-preserved : goal.loop-i-preserved
 loop-i-preserved c = let h = ap units (at c.args.self.now c.loop-i.i (omega arith)) in omega arith

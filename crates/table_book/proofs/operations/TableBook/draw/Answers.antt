@@ -5,8 +5,12 @@ use Rattle.table_book.specs.Held.{held}
 use Rattle.book.proofs.Lots.{rising-undrawn, units-undrawn}
 use Rattle.table_book.proofs.operations.TableBook.draw.Goals as goal
 
-pub invariant-of-self : goal.invariant-of-self
-invariant-of-self c =
+pub invariant_of-self : goal.invariant_of-self
+invariant_of-self c =
     let o = c.args.self.now in
-    let e = c.draw-from-old.ensures.lots in
-    (ap (rising 0) e ∙ rising-undrawn 0 c.args.n (held o.old) o.ordered, (omega (arith, ap units e, units-undrawn c.args.n (held o.old)), (omega arith, tt)))
+    let e = c.draw-from_old.ensures.lots in
+    record {
+      ordered = ap (rising 0) e ∙ rising-undrawn 0 c.args.n (held o.old) o.ordered;
+      bounded = omega (arith, ap units e, units-undrawn c.args.n (held o.old));
+      small = omega arith;
+    }

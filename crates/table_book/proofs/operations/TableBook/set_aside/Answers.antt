@@ -16,20 +16,24 @@ returns-then-not-put c =
     let a = c.if-not-put.ensures.answer in
     record { answer = grind (arith, nat_tests); book = refl; same = λ _. refl }
 
-pub returns-then-sum-self-gt-MOST-OLD-UNITS : goal.returns-then-sum-self-gt-MOST-OLD-UNITS
-returns-then-sum-self-gt-MOST-OLD-UNITS c =
+pub returns-then-sum-self-gt-MOST_OLD_UNITS : goal.returns-then-sum-self-gt-MOST_OLD_UNITS
+returns-then-sum-self-gt-MOST_OLD_UNITS c =
     let o = c.args.self.now in
     let e = ap length (last_put o.fresh c.args.end.0 c.args.cap.0 (held c.lowered-next.result) (held o.old) c.lowered-next.ensures.lots) in
     let a = c.if-not-put.ensures.answer in
     let u = units-aside o.fresh c.args.end.0 c.args.cap.0 (held o.old) in
     record { answer = grind (arith, nat_tests); book = refl; same = λ _. refl }
 
-pub invariant-of-self : goal.invariant-of-self
-invariant-of-self c =
+pub invariant_of-self : goal.invariant_of-self
+invariant_of-self c =
     let o = c.args.self.now in
     let p = c.if-not-put.ensures.lots ∙ last_put o.fresh c.args.end.0 c.args.cap.0 (held c.lowered-next.result) (held o.old) c.lowered-next.ensures.lots in
     let u = units-aside o.fresh c.args.end.0 c.args.cap.0 (held o.old) in
-    (ap (rising 0) p ∙ rising-aside 0 o.fresh c.args.end.0 c.args.cap.0 (held o.old) (omega arith) (omega arith) o.ordered, (omega (arith, ap units p), (omega arith, tt)))
+    record {
+      ordered = ap (rising 0) p ∙ rising-aside 0 o.fresh c.args.end.0 c.args.cap.0 (held o.old) (omega arith) (omega arith) o.ordered;
+      bounded = omega (arith, ap units p);
+      small = omega arith;
+    }
 
 pub returns : goal.returns
 returns c =
