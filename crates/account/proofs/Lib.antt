@@ -1,3 +1,4 @@
 pub mod Costs
 pub mod Bounded
 pub mod Passed
+pub mod Judged

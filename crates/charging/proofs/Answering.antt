@@ -6,8 +6,8 @@ use Rattle.rules.specs.Checks.{Refusal}
 use Rattle.rules.specs.Runs.{opening_refusal}
 use Rattle.event_file.specs.Layout.{count, file_right}
 use Rattle.event_file.specs.FileFaults.{number_of}
-use Rattle.event_file.specs.declared.fault.FileFault.{FileFault}
-use Rattle.event_file.specs.declared.fault.FileFault.TheVariants.{WrongFile, WrongRecord, Account}
+use Rattle.event_file.specs.declared.file_fault.FileFault.{FileFault}
+use Rattle.event_file.specs.declared.file_fault.FileFault.TheVariants.{WrongFile, WrongRecord, Account}
 use Rattle.event_run.specs.Postings.{PlacedRefusal, refused_file}
 use Rattle.event_run.specs.Coded.{file_refusal_of}
 use Rattle.charging.specs.Answers.{file_number, opening_number, life_columns, totals_answer, series_answer, posting_columns, postings_answer}

@@ -2,7 +2,7 @@
 ghost use Rattle.std.specs.Prelude.{◌≡◌};
 ghost use Rattle.charging.specs.declared.fault.HostFault.TheVariants as host_fault;
 
-use event_file::fault::FileFault;
+use event_file::file_fault::FileFault;
 use fault::account::Fault;
 
 #[derive(Clone, Copy)]

@@ -9,7 +9,7 @@ use crate::place::put;
 use crate::row::receipt_row;
 use crate::rows::Rows;
 use book::fault::BookFault;
-use event_file::fault::FileFault;
+use event_file::file_fault::FileFault;
 use event_run::journal::Journal;
 use event_run::posted::Posted;
 use fault::account::Fault;

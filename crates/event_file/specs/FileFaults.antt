@@ -3,9 +3,9 @@ use Rattle.std.specs.Prelude.{ℕ}
 use Rattle.fault.specs.Faults as account
 use Rattle.fault.specs.declared.account.Layer.{Layer}
 use Rattle.fault.specs.declared.account.Layer.TheVariants.{File}
-use Rattle.event_file.specs.declared.fault.Place.{Place}
-use Rattle.event_file.specs.declared.fault.FileFault.{FileFault}
-use Rattle.event_file.specs.declared.fault.FileFault.TheVariants.{WrongFile, WrongRecord, Account}
+use Rattle.event_file.specs.declared.file_fault.Place.{Place}
+use Rattle.event_file.specs.declared.file_fault.FileFault.{FileFault}
+use Rattle.event_file.specs.declared.file_fault.FileFault.TheVariants.{WrongFile, WrongRecord, Account}
 
 -- A wrong file or trailer has number 13, a wrong record 14; an account's refusal keeps its own.
 abbrev pub number_of : FileFault → ℕ

@@ -1,6 +1,6 @@
 -- The records of a file, in their order, each with its place.
 use Rattle.std.specs.Prelude.{ℕ, zero, suc, ◌+◌, ◌*◌, List, [], ◌∷◌}
-use Rattle.event_file.specs.declared.fault.Place.{Place}
+use Rattle.event_file.specs.declared.file_fault.Place.{Place}
 use Rattle.event_file.specs.Layout.{sixteen_at, first_offset, count}
 
 -- A record's bytes and its place.

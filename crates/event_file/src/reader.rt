@@ -4,7 +4,7 @@ ghost use Rattle.event_file.specs.Layout.{file_right, first_offset, count};
 ghost use Rattle.event_file.specs.Parts.{parts, parts_from};
 ghost use Rattle.event_file.specs.Reader.{coming, position, end, fits, placed};
 
-use crate::fault::Place;
+use crate::file_fault::Place;
 use crate::records::{Part, Records};
 use crate::trailer::Trailer;
 

@@ -2,7 +2,7 @@
 ghost use Rattle.std.specs.Prelude.{◌+◌, ◌*◌, ◌≤◌, length};
 ghost use Rattle.event_file.specs.Layout.{most_bytes};
 
-use crate::fault::Place;
+use crate::file_fault::Place;
 
 // One record's bytes, with their place in the file.
 #[derive(Drop)]

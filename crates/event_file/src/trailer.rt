@@ -1,9 +1,9 @@
 // The trailer: the last 16 bytes, which tell where the records stand and how the account is opened.
 ghost use Rattle.std.specs.Prelude.{◌≡◌, ◌+◌, ◌*◌, ◌≤◌, true, false, IfOk, MatchResult};
 ghost use Rattle.event_file.specs.Layout.{most_bytes, file_right, first_offset, count, opening_plan, opening_moment};
-ghost use Rattle.event_file.specs.declared.fault.FileFault.TheVariants as file_fault;
+ghost use Rattle.event_file.specs.declared.file_fault.FileFault.TheVariants as file_fault;
 
-use crate::fault::FileFault;
+use crate::file_fault::FileFault;
 use quantities::time::Moment;
 use tariff::terms::PlanCode;
 

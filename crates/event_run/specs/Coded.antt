@@ -2,8 +2,8 @@
 use Rattle.std.specs.Prelude.{◌≡◌, List, map, Some, None, Ok, Err, Option, Result}
 use Rattle.fault.specs.Faults.{refusal_of}
 use Rattle.receipt.specs.Columns.{receipt_of}
-use Rattle.event_file.specs.declared.fault.FileFault.{FileFault}
-use Rattle.event_file.specs.declared.fault.FileFault.TheVariants.{WrongFile, WrongRecord, Account}
+use Rattle.event_file.specs.declared.file_fault.FileFault.{FileFault}
+use Rattle.event_file.specs.declared.file_fault.FileFault.TheVariants.{WrongFile, WrongRecord, Account}
 use Rattle.event_run.specs.declared.posted.Posted.{Posted}
 use Rattle.event_run.specs.declared.stopped.Stopped.{Stopped}
 use Rattle.event_run.specs.declared.stopped.Stopped.TheVariants.{Refused, NoMemory}

@@ -5,7 +5,7 @@ use Rattle.rules.specs.Receipt.{Receipt, nothing, ◌⊕◌}
 use Rattle.rules.specs.State.{World, Account}
 use Rattle.rules.specs.Checks.{Refusal}
 use Rattle.rules.specs.Runs.{Answer, refused, step, opening, opening_refusal}
-use Rattle.event_file.specs.declared.fault.Place.{Place}
+use Rattle.event_file.specs.declared.file_fault.Place.{Place}
 use Rattle.event_file.specs.Layout.{file_right, opening_plan, opening_moment}
 use Rattle.event_file.specs.Parts.{Placed, parts}
 use Rattle.event_file.specs.Records.{decoded}

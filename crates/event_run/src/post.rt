@@ -9,7 +9,7 @@ ghost use Rattle.event_run.specs.Coded.{posting_of, file_outcome_of};
 use crate::posted::Posted;
 use account::account::Account;
 use book::meaning::Book;
-use event_file::fault::{FileFault, Place, PlacedFault};
+use event_file::file_fault::{FileFault, Place, PlacedFault};
 use event_file::record::event_of;
 use event_file::records::Part;
 use fault::account::Fault;

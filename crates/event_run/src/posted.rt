@@ -1,5 +1,5 @@
 // What is told of one record of a file.
-use event_file::fault::{FileFault, Place};
+use event_file::file_fault::{FileFault, Place};
 use quantities::money::Sums;
 use receipt::receipt::Receipt;
 

@@ -12,7 +12,7 @@ use crate::posted::Posted;
 use crate::stopped::Stopped;
 use account::account::Account;
 use book::meaning::Book;
-use event_file::fault::{FileFault, Place};
+use event_file::file_fault::{FileFault, Place};
 use event_file::records::Records;
 use event_file::trailer::Trailer;
 use quantities::unit::PerUnit;

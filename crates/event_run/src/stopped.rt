@@ -2,7 +2,7 @@
 ghost use Rattle.std.specs.Prelude.{◌≡◌};
 ghost use Rattle.event_run.specs.declared.stopped.Stopped.TheVariants as stopped;
 
-use event_file::fault::FileFault;
+use event_file::file_fault::FileFault;
 
 #[derive(Clone, Copy)]
 pub enum Stopped {

@@ -3,7 +3,7 @@ ghost use Rattle.std.specs.Prelude.{◌≡◌, map, IfOk, string_bytes};
 ghost use Rattle.event_run.specs.Coded.{posting_of, file_outcome_of};
 ghost use Rattle.statement_file.specs.Statement.{outcome_number, posting_text, postings_text};
 
-use event_file::fault::FileFault;
+use event_file::file_fault::FileFault;
 use event_run::posted::Posted;
 use statement_text::line::record_line;
 use std::alloc::{AllocError, Global};

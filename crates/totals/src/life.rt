@@ -12,7 +12,7 @@ ghost use Rattle.event_run.specs.FileLaw.{total, LawOfFile, LawOfSeries};
 use crate::totals::Totals;
 use account::account::Account;
 use book::meaning::Book;
-use event_file::fault::FileFault;
+use event_file::file_fault::FileFault;
 use event_file::records::Records;
 use event_run::journal::Journal;
 use event_run::run::{post_records, run_file};

@@ -26,7 +26,7 @@ returns-then-due-day g c =
     let after = c.if-due-day.true in
     let same : due.0 ≡ d.0 = cc in
     omega arith in
-    record { told = c.judge-at-then-due-day.ensures.told ∙ rests_told w D c.args.call s rests }
+    record { told = c.judge_at-then-due-day.ensures.told ∙ rests_told w D c.args.call s rests }
 
 pub returns-else-due-day : goal.returns-else-due-day
 returns-else-due-day g c =
@@ -46,6 +46,6 @@ returns-else-due-day g c =
     let to : u ≡ (settle gregorian (suc D) D (stripped s)).state =
     ap (λ (o : Out). o.state) c.settle.ensures.does ∙ ap (λ t. (settle gregorian (suc D) D t).state) c.ahead-next.ensures in
     record {
-      told = c.judge-at-in-Active.ensures.told
+      told = c.judge_at-in-Active.ensures.told
           ∙ same-told w 1 most (omega arith) g.met.B.Book.roomy D c.in-Active.due c.args.call s u c.in-Active.is (omega arith) few to;
     }

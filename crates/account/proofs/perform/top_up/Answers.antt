@@ -11,7 +11,7 @@ returns-then-ledger g c =
     let a = c.args.ledger.now in
     let s = with_balance (a.balance.sums.0 + c.args.sums.0) (state_of g.B.Book.means a) in
     record {
-      does = c.start-on.ensures.does ∙ sym (wakes gregorian c.args.day.day.0 s c.in-Blocked.is c.if-ledger.true);
+      does = c.start_on.ensures.does ∙ sym (wakes gregorian c.args.day.day.0 s c.in-Blocked.is c.if-ledger.true);
       small = search rules;
     }
 

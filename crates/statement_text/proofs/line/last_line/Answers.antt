@@ -3,8 +3,8 @@ use Rattle.std.proofs.Common.{ℕ, List, Some, sym, ap, ◌∙◌}
 use Rattle.statement_text.specs.Text.{due_text, last_text}
 use Rattle.statement_text.proofs.line.last_line.Goals as goal
 
-pub returns-in-ok-format-2 : goal.returns-in-ok-format-2
-returns-in-ok-format-2 c =
+pub returns-in_ok-format-in-Active : goal.returns-in_ok-format-in-Active
+returns-in_ok-format-in-Active c =
     record {
-      text = ap last_text c.in-Active.is ∙ ap due_text (sym c.in-Some.ensures.value) ∙ ap (λ (bytes : List ℕ). Some bytes) (sym c.in-ok-format-2.ensures.ok);
+      text = ap last_text c.in-Active.is ∙ ap due_text (sym c.in-Some.ensures.value) ∙ ap (λ (bytes : List ℕ). Some bytes) (sym c.in_ok-format-in-Active.ensures.ok);
     }

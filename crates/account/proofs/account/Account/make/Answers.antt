@@ -11,27 +11,27 @@ use Rattle.ledger.proofs.Turns.{all_below_more}
 use Rattle.account.specs.Meaning.{account_of, world}
 use Rattle.account.proofs.account.Account.make.Goals as goal
 
-pub returns-in-err-judge : goal.returns-in-err-judge
-returns-in-err-judge g c =
-    let p = err_from_is_err_and c.from-residual.result c.from-residual.ensures.1 in
+pub returns-in_err-judge : goal.returns-in_err-judge
+returns-in_err-judge g c =
+    let p = err_from_is_err_and c.from_residual.result c.from_residual.ensures.1 in
     let a = c.args.self.now in
     let e = c.args.event in
     let w = world g.L.Line.terms g.L.Line.entry g.L.Line.lawful a.line g.B.Book.most in
     let s = account_of g.B.Book.means a in
     let (soon, on) = c.in-Some.ensures in
-    let told = in_time w s e c.in-Some.day.day.0 on soon c.if-event-self.false ∙ sym c.in-err-judge.ensures.told in
+    let told = in_time w s e c.in-Some.day.day.0 on soon c.if-event-self.false ∙ sym c.in_err-judge.ensures.told in
     rw (p.1, p.2)
     record {
-      does = refused-from w s e (refusal_of c.in-err-judge.field-0.0) (receipt_of c.nothing.result) told c.nothing.ensures;
+      does = refused-from w s e (refusal_of c.in_err-judge.field-0.0) (receipt_of c.nothing.result) told c.nothing.ensures;
       line = refl;
       same = λ _. refl;
     }
 
 pub perform-done-requires : goal.perform-done-requires
 perform-done-requires g c =
-    let brought = ap (λ (o : Out). o.state) c.bring-up-brought.ensures.does in
+    let brought = ap (λ (o : Out). o.state) c.bring_up-brought.ensures.does in
     let w = world g.L.Line.terms g.L.Line.entry g.L.Line.lawful c.args.self.now.line g.B.Book.most in
-    ap (λ x. first_refusal (checks w c.in-Some.day.day.0 c.args.event.call x)) brought ∙ sym c.in-ok-judge.ensures.told
+    ap (λ x. first_refusal (checks w c.in-Some.day.day.0 c.args.event.call x)) brought ∙ sym c.in_ok-judge.ensures.told
 
 pub returns : goal.returns
 returns g c =
@@ -42,14 +42,14 @@ returns g c =
     let s = account_of means a in
     let (soon, on) = c.in-Some.ensures in
     let D = c.in-Some.day.day.0 in
-    let told = in_time w s e D on soon c.if-event-self.false ∙ sym c.in-ok-judge.ensures.told in
-    let t = state_of means c.bring-up-brought.new.ledger in
+    let told = in_time w s e D on soon c.if-event-self.false ∙ sym c.in_ok-judge.ensures.told in
+    let t = state_of means c.bring_up-brought.new.ledger in
     let u = state_of means c.perform-done.new.ledger in
-    let p = receipt_of c.bring-up-brought.result in
+    let p = receipt_of c.bring_up-brought.result in
     let q = receipt_of c.perform-done.result in
-    let sum = c.plus.ensures.exact (all_below_more (2 ^ 53) (2 ^ 63) (omega arith) p c.bring-up-brought.ensures.small) (all_below_more (2 ^ 46) (2 ^ 63) (omega arith) q c.perform-done.ensures.small) in
+    let sum = c.plus.ensures.exact (all_below_more (2 ^ 53) (2 ^ 63) (omega arith) p c.bring_up-brought.ensures.small) (all_below_more (2 ^ 46) (2 ^ 63) (omega arith) q c.perform-done.ensures.small) in
     record {
-      does = accepted-from w s e D on t u p q (receipt_of c.plus.result) c.bring-up-brought.ensures.does c.perform-done.ensures.does sum told;
+      does = accepted-from w s e D on t u p q (receipt_of c.plus.result) c.bring_up-brought.ensures.does c.perform-done.ensures.does sum told;
       line = refl;
       same = λ h. absurd (omega (arith, ap (λ b. cond {A = ℕ} b 1 0) h));
     }

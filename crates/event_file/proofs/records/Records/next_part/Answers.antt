@@ -10,7 +10,7 @@ returns c =
     let offset = c.position-offset.result in
     let file = c.args.self.now.file.now in
     record {
-      part = first_part file _ _ _ offset _ some c.position-offset.ensures.value (c.in-ok-bytes.ensures.cases.same ∙ ap (take 16) (take_rest file offset));
+      part = first_part file _ _ _ offset _ some c.position-offset.ensures.value (c.in_ok-bytes.ensures.cases.same ∙ ap (take 16) (take_rest file offset));
       left = omega arith;
       position = omega arith;
       end = omega arith;

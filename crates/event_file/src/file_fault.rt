@@ -1,7 +1,7 @@
 // Why a file, or a record of it, is refused, with a number for each refusal.
 ghost use Rattle.std.specs.Prelude.{◌≡◌};
 ghost use Rattle.event_file.specs.FileFaults.{number_of, layer_of, place_of};
-ghost use Rattle.event_file.specs.declared.fault.FileFault.TheVariants as file_fault;
+ghost use Rattle.event_file.specs.declared.file_fault.FileFault.TheVariants as file_fault;
 
 use fault::account::{Fault, Layer};
 
