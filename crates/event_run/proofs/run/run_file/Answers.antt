@@ -8,8 +8,8 @@ use Rattle.event_run.proofs.run.run_file.Goals as goal
 pub returns : goal.returns
 returns g c =
     let w = world g.L.Line.terms g.L.Line.entry g.L.Line.lawful c.args.line g.B.Book.most in
-    let told = c.in-ok-run.ensures in
-    let run = c.in-ok-run.run' in
+    let told = c.in_ok-run.ensures in
+    let run = c.in_ok-run.run' in
     record {
       refused = told.refused;
       posted = told.posted;

@@ -12,8 +12,8 @@ loop-posted-preserved c =
     let i = c.loop-posted.posted-index in
     let list = c.args.list.now in
     let before = take i list in
-    let line = c.deref.ensures ∙ c.in-ok-line.ensures.text in
-    pushed _ c.loop-posted.invariant c.in-ok-push-str.was c.push-str.ensures.bytes
+    let line = c.deref.ensures ∙ c.in_ok-line.ensures.text in
+    pushed _ c.loop-posted.invariant c.in_ok-push_str.was c.push_str.ensures.bytes
     ∙ ap (λ text. postings_text (map posting_of before) ++ text) line
     ∙ sym (postings_text_push before _)
     ∙ ap (λ ps. postings_text (map posting_of ps)) (sym (take_more list i _ c.loop-posted-test.true))
