@@ -1,20 +1,17 @@
 -- Every column of a call's receipt is bounded, for any account of the code.
-use Rattle.std.proofs.Common.{◌≡◌, ℕ, ◌+◌, ◌≤◌, arith}
-use Rattle.quantities.specs.Limits.{most_grant, most_old_units, most_balance}
-use Rattle.quantities.specs.Units.{of}
-use Rattle.quantities.specs.declared.unit.UnitKind.{UnitKind}
+use Rattle.std.proofs.Common.{ℕ, ◌+◌, ◌≤◌, arith}
+use Rattle.quantities.specs.Limits.{most_grant, most_old_units}
 use Rattle.quantities.specs.declared.unit.UnitKind.TheVariants.{Minutes, Megabytes, Messages}
-use Rattle.tariff.specs.Terms.{WithinLimits, terms_of, amount, price_beyond}
+use Rattle.tariff.specs.Terms.{WithinLimits, terms_of}
 use Rattle.tariff.specs.declared.terms.Terms.{Terms as Coded}
 use Rattle.book.specs.Allowance.{Allowance, Kept, left}
 use Rattle.calendar.proofs.Due.{month_of_before}
 use Rattle.rules.specs.declared.call.Event.{Event}
-use Rattle.rules.specs.State.{World, State}
+use Rattle.rules.specs.State.{World}
 use Rattle.rules.specs.Runs.{step}
 use Rattle.rules.specs.Gregorian.{gregorian}
 use Rattle.rules.specs.Bounds.{most_column, ColumnsWithin, HundredYears}
 use Rattle.rules.proofs.Columns.{step_columns}
-use Rattle.ledger.specs.Meaning.{state_of}
 use Rattle.account.specs.declared.account.Account.{Account}
 use Rattle.account.specs.Meaning.{account_of}
 

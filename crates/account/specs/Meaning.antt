@@ -6,7 +6,7 @@ use Rattle.book.specs.Allowance.{Allowance}
 use Rattle.rules.specs.declared.call.Status.{Status}
 use Rattle.rules.specs.declared.call.Status.TheVariants.{Blocked, Active}
 use Rattle.rules.specs.Receipt.{Receipt}
-use Rattle.rules.specs.State.{World, State, Account as Meant}
+use Rattle.rules.specs.State.{World, Account as Meant}
 use Rattle.rules.specs.Checks.{Refusal}
 use Rattle.rules.specs.Runs.{Answer}
 use Rattle.rules.specs.Gregorian.{gregorian}

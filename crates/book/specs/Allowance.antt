@@ -1,5 +1,5 @@
 -- The meaning of an allowance book, and what each operation makes of it.
-use Rattle.std.specs.Prelude.{◌≡◌, ℕ, ◌+◌, ◌-◌, ◌≤◌, min, Bool, true, false, cond, not, ◌&&◌, leb, List, [], ◌∷◌, ◌++◌, length, Ok, Err, fold, filter, Result, ◌==◌, nat_le, nat_lt}
+use Rattle.std.specs.Prelude.{◌≡◌, ℕ, ◌+◌, ◌-◌, ◌≤◌, min, Bool, true, cond, not, ◌&&◌, leb, List, [], ◌∷◌, ◌++◌, length, Ok, Err, fold, filter, Result, ◌==◌, nat_le, nat_lt}
 use Rattle.quantities.specs.Limits.{most_grant, most_old_units}
 use Rattle.book.specs.declared.fault.BookFault.{BookFault}
 use Rattle.book.specs.declared.fault.BookFault.TheVariants.{NotEmpty, TooLarge, TooManyLots, TooManyUnits}

@@ -1,6 +1,5 @@
 -- The run of a file is the run of its calls, so that the laws over runs hold of what it hands back.
-use Rattle.std.proofs.Common.{◌≡◌, ℕ, ◌+◌, ◌≤◌, Bool, true, false, cond, ltb, List, [], ◌∷◌, ◌++◌, length, take, drop, Some, None, Option, sym, refl, ap, ◌∙◌, subst, subst₂}
-use Rattle.std.specs.List.{AllByRecursion as All}
+use Rattle.std.proofs.Common.{◌≡◌, ℕ, ◌+◌, Bool, true, false, cond, ltb, List, [], ◌∷◌, ◌++◌, length, take, drop, Some, None, Option, sym, refl, ap, ◌∙◌, subst, subst₂}
 use Rattle.quantities.specs.Limits.{last_moment}
 use Rattle.quantities.specs.Units.{of}
 use Rattle.tariff.specs.Terms.{Terms}
@@ -8,7 +7,7 @@ use Rattle.rules.specs.declared.call.Event.{Event}
 use Rattle.rules.specs.Receipt.{Receipt, ◌⊕◌}
 use Rattle.rules.specs.State.{World, Account, money_held, money_charged, units_accounted}
 use Rattle.rules.specs.Checks.{Refusal}
-use Rattle.rules.specs.Runs.{Answer, Run, run, step, onward, opened}
+use Rattle.rules.specs.Runs.{Run, run, step, onward, opened}
 use Rattle.rules.specs.Laws.{topped_up, OneAccepted}
 use Rattle.rules.proofs.Receipts.{nothing-⊕}
 use Rattle.rules.proofs.Closing.{money_closes, units_close}
@@ -16,7 +15,7 @@ use Rattle.rules.proofs.Marks.{day_mark_free}
 use Rattle.event_file.specs.Layout.{opening_plan, opening_moment}
 use Rattle.event_file.specs.Parts.{Placed, parts}
 use Rattle.event_file.specs.Records.{decoded}
-use Rattle.event_run.specs.Postings.{Posting, answer_to, placed_outcome, posting, postings, closing, postings_from, closing_from, file_postings, file_closing, opened_by}
+use Rattle.event_run.specs.Postings.{Posting, answer_to, placed_outcome, postings, closing, postings_from, closing_from, file_postings, file_closing}
 use Rattle.event_run.specs.FileLaw.{calls, with_event, with_outcome, bare, call_outcomes, total, FileLaw, LawFrom, LawOfFile, LawClosing, ObeysLaw}
 
 bare-placed : (o : Option Refusal) (p : _) → bare (placed_outcome o p) ≡ o

@@ -1,5 +1,5 @@
 -- What the postings of the code mean.
-use Rattle.std.specs.Prelude.{◌≡◌, List, map, Some, None, Ok, Err, Option, Result}
+use Rattle.std.specs.Prelude.{Some, None, Ok, Err, Option, Result}
 use Rattle.fault.specs.Faults.{refusal_of}
 use Rattle.receipt.specs.Columns.{receipt_of}
 use Rattle.event_file.specs.declared.file_fault.FileFault.{FileFault}

@@ -1,7 +1,7 @@
 -- The run over an event file: each record's call is made one after another, and posted with its place.
 use Rattle.std.specs.Prelude.{ℕ, cond, List, [], ◌∷◌, Some, None, Option}
 use Rattle.rules.specs.declared.call.Event.{Event}
-use Rattle.rules.specs.Receipt.{Receipt, nothing, ◌⊕◌}
+use Rattle.rules.specs.Receipt.{Receipt}
 use Rattle.rules.specs.State.{World, Account}
 use Rattle.rules.specs.Checks.{Refusal}
 use Rattle.rules.specs.Runs.{Answer, refused, step, opening, opening_refusal}

@@ -3,7 +3,6 @@ use Rattle.std.specs.Prelude.{ℕ, Some, None, Ok, Err, Option, Result}
 use Rattle.rules.specs.Checks.{Concern, Refusal}
 use Rattle.fault.specs.declared.account.Layer.{Layer}
 use Rattle.fault.specs.declared.account.Layer.TheVariants as layer
-use Rattle.fault.specs.declared.account.UnitFault.{UnitFault}
 use Rattle.fault.specs.declared.account.Fault.{Fault}
 use Rattle.fault.specs.declared.account.Fault.TheVariants.{PastLastMoment, BeforeLatestMoment, AmountOutOfRange, NoTerms, NoEntry, Blocked, NotOffered, FeeTakenThatDay, MegabytesPastAllowance, BalanceTooLow, BalanceTooHigh, Book}
 

@@ -18,7 +18,7 @@ use Rattle.rules.specs.declared.call.Event.{Event}
 use Rattle.rules.specs.Receipt.{Tally, Receipt, none, wiping_by_restart, wiping_by_switch, ◌⊕◌, nothing}
 use Rattle.rules.specs.State.{Calendar, World, State, Account, Out, awaited_fee, awaited_grant, same, then, with_balance, with_plan, with_anchor}
 use Rattle.rules.specs.DueDays.{granted, start_on}
-use Rattle.rules.specs.Calls.{is_blocked, wake_if_paid, beyond, serve, new_due, wipe_or_keep, restarted, switch_wipes_unit, leave_plan, pay_entry, switched, switch_to, perform}
+use Rattle.rules.specs.Calls.{is_blocked, wake_if_paid, serve, new_due, wipe_or_keep, restarted, switch_wipes_unit, leave_plan, pay_entry, switched, switch_to, perform}
 use Rattle.rules.specs.Checks.{Refusal, checks, all_checks, day_of, brought, refusal}
 use Rattle.rules.specs.Runs.{Answer, step, run, opened}
 use Rattle.rules.specs.Bounds.{entered, InFull, FeesGrantInFull}

@@ -1,6 +1,5 @@
 -- One more line after the lines of the records before it.
-use Rattle.std.proofs.Common.{◌≡◌, ℕ, List, [], ◌∷◌, ◌++◌, map, sym, refl, ap, ◌∙◌, append_assoc}
-use Rattle.event_run.specs.Postings.{Posting}
+use Rattle.std.proofs.Common.{◌≡◌, List, [], ◌∷◌, ◌++◌, map, sym, refl, ap, ◌∙◌, append_assoc}
 use Rattle.event_run.specs.Coded.{posting_of}
 use Rattle.event_run.specs.declared.posted.Posted.{Posted}
 use Rattle.statement_file.specs.Statement.{posting_text, postings_text}

@@ -1,16 +1,14 @@
 -- Judging ahead on small books, or after the lapse alone, is judging the account as brought up.
-use Rattle.std.proofs.Common.{◌≡◌, ℕ, suc, ◌<◌, ◌≤◌, ap, ◌∙◌, arith, rules}
+use Rattle.std.proofs.Common.{◌≡◌, suc, ◌<◌, ap, ◌∙◌, arith}
 use Rattle.quantities.specs.declared.time.Day.{Day}
 use Rattle.quantities.specs.declared.unit.UnitKind.TheVariants.{Minutes, Megabytes, Messages}
-use Rattle.rules.specs.declared.call.Status.TheVariants.{Blocked as blocked, Active as active}
-use Rattle.rules.specs.State.{State, Out}
+use Rattle.rules.specs.declared.call.Status.TheVariants.{Active as active}
+use Rattle.rules.specs.State.{Out}
 use Rattle.rules.specs.DueDays.{settle}
 use Rattle.rules.specs.Gregorian.{gregorian}
 use Rattle.rules.specs.Ahead.{stripped}
 use Rattle.rules.proofs.Ahead.{FewFresh, same-told, rests_told}
-use Rattle.ledger.specs.declared.ledger.Ledger.{Ledger}
 use Rattle.ledger.specs.Meaning.{state_of}
-use Rattle.small_book.specs.declared.small.Small.{Small}
 use Rattle.small_book.specs.Meaning.{meaning}
 use Rattle.account.specs.Meaning.{world}
 use Rattle.account.proofs.judge.judge.Goals as goal

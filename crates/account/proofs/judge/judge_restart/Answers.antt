@@ -1,5 +1,5 @@
 -- Each check of a Restart, in its order.
-use Rattle.std.proofs.Common.{◌≡◌, Bool, [], ◌∷◌, true, false, sym, ap, ◌∙◌, arith}
+use Rattle.std.proofs.Common.{Bool, [], ◌∷◌, sym, ap, ◌∙◌, arith}
 use Rattle.quantities.specs.declared.unit.UnitKind.{UnitKind}
 use Rattle.std.proofs.lemmas.Bool.{cond-true, cond-false, lt-ltb, le-ltb}
 use Rattle.rules.specs.State.{awaited_fee}

@@ -1,5 +1,5 @@
 -- Each check of a use, in its order.
-use Rattle.std.proofs.Common.{◌≡◌, true, false, not, sym, ap, ◌∙◌, arith}
+use Rattle.std.proofs.Common.{not, sym, ap, ◌∙◌, arith}
 use Rattle.std.proofs.lemmas.Bool.{cond-true, cond-false, lt-ltb, le-ltb}
 use Rattle.quantities.specs.Limits.{most_use}
 use Rattle.rules.specs.DueDays.{lapse_all}

@@ -1,5 +1,5 @@
 -- A count of 32 bits at a price within the limits.
-use Rattle.std.proofs.Common.{◌≡◌, ◌*◌, ◌^◌, ◌<◌, ap, ◌∙◌, arith}
+use Rattle.std.proofs.Common.{◌*◌, ◌^◌, ◌<◌, ap, ◌∙◌, arith}
 use Rattle.account.proofs.Costs.{cost_small}
 use Rattle.account.proofs.perform.cost_of.Goals as goal
 

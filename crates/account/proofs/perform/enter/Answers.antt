@@ -1,5 +1,5 @@
 -- Paying changes no book, so the plan can be left as before.
-use Rattle.std.proofs.Common.{◌≡◌, ap, ◌∙◌}
+use Rattle.std.proofs.Common.{ap, ◌∙◌}
 use Rattle.tariff.specs.Terms.{entry_of}
 use Rattle.rules.specs.State.{Out}
 use Rattle.rules.specs.Calls.{new_due}

@@ -1,5 +1,5 @@
 -- A blocked account wakes where its balance reaches the fee.
-use Rattle.std.proofs.Common.{◌≡◌, ◌+◌, sym, ap, ◌∙◌, rules}
+use Rattle.std.proofs.Common.{◌+◌, sym, ap, ◌∙◌, rules}
 use Rattle.rules.specs.State.{with_balance}
 use Rattle.rules.specs.Gregorian.{gregorian}
 use Rattle.rules.proofs.Waking.{wakes, stays_blocked, stays_active}

@@ -1,10 +1,10 @@
 -- One more record is posted.
-use Rattle.std.proofs.Common.{◌≡◌, true, [], ◌∷◌, ◌++◌, map, is_ok, vec_items, sym, ap, ◌∙◌, rules}
+use Rattle.std.proofs.Common.{◌≡◌, true, [], ◌∷◌, ◌++◌, map, is_ok, vec_items, ap, ◌∙◌, rules}
 use Rattle.std.proofs.lemmas.Bool.{cond-true}
 use Rattle.rules.specs.Runs.{Answer}
 use Rattle.account.specs.Meaning.{account_of, world}
 use Rattle.event_file.specs.Reader.{coming, placed}
-use Rattle.event_run.specs.Postings.{answer_at, posting, postings, closing}
+use Rattle.event_run.specs.Postings.{answer_at, posting, postings}
 use Rattle.event_run.specs.Coded.{posting_of}
 use Rattle.event_run.proofs.Turns.{map-append, postings_turn, closing_turn}
 use Rattle.event_run.proofs.run.post_all.Goals as goal

@@ -1,5 +1,5 @@
 -- A turn adds the line of its record, and after the last turn there are the lines of all.
-use Rattle.std.proofs.Common.{◌≡◌, ◌++◌, map, take, sym, ap, ◌∙◌, rules}
+use Rattle.std.proofs.Common.{◌++◌, map, take, sym, ap, ◌∙◌}
 use Rattle.std.proofs.lemmas.List.{take_more, take_all}
 use Rattle.std.proofs.lemmas.Slice.{pushed}
 use Rattle.event_run.specs.Coded.{posting_of}

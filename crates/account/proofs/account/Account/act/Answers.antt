@@ -1,9 +1,8 @@
 -- The receipt of one call is within bounds, whatever the account.
-use Rattle.std.proofs.Common.{◌≡◌, sym, ap, subst}
-use Rattle.receipt.specs.Columns.{receipt_of}
+use Rattle.std.proofs.Common.{sym, ap, subst}
 use Rattle.rules.specs.Bounds.{most_column, ColumnsWithin}
 use Rattle.rules.specs.Runs.{Answer}
-use Rattle.account.specs.Meaning.{account_of, world}
+use Rattle.account.specs.Meaning.{world}
 use Rattle.account.proofs.Bounded.{columns_of, hundred_years}
 use Rattle.account.proofs.account.Account.act.Goals as goal
 

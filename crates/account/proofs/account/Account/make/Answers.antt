@@ -1,5 +1,5 @@
 -- What a call did is what the rules say, accepted or refused.
-use Rattle.std.proofs.Common.{◌≡◌, ℕ, ◌^◌, cond, sym, refl, ap, ◌∙◌, arith}
+use Rattle.std.proofs.Common.{ℕ, ◌^◌, cond, sym, refl, ap, ◌∙◌, arith}
 use Rattle.std.proofs.lemmas.Result.{err_from_is_err_and}
 use Rattle.receipt.specs.Columns.{receipt_of}
 use Rattle.fault.specs.Faults.{refusal_of}
