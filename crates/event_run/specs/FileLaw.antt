@@ -1,6 +1,6 @@
 -- The law over the run of a file, said of what the run hands back: its postings and the account at the end.
 use Rattle.std.specs.Prelude.{◌≡◌, ℕ, ◌+◌, ◌≤◌, List, [], ◌∷◌, ◌++◌, length, take, drop, Some, None, Option}
-use Rattle.std.specs.List.{AllByRecursion as All}
+use Rattle.std.specs.List.{AllByRecursion}
 use Rattle.quantities.specs.Units.{of}
 use Rattle.quantities.specs.declared.unit.UnitKind.{UnitKind}
 use Rattle.rules.specs.declared.call.Event.{Event}
@@ -54,7 +54,7 @@ pub record FileLaw (w : World) (ps : List Placed) (a : Account) (posted : List P
   -- One more day mark among the calls, dated no later than those after it, one of which is accepted: each other call
   -- comes out as it did, and the account at the end and all totals are as they were.
   pub marks : (before later : List Event) → before ++ later ≡ calls ps → (m : ℕ) →
-      All (λ e. m ≤ e.moment.0) later →
+      AllByRecursion (λ e. m ≤ e.moment.0) later →
       OneAccepted (drop (length before) (call_outcomes ps posted)) →
       let marked = run w a (before ++ (marked_at m ∷ later)) in
       let n = length before in

@@ -1,6 +1,6 @@
 -- No sum and no unit comes from nowhere or is lost: what each step keeps, and what a run keeps.
 use Rattle.std.proofs.Common.{◌≡◌, ℕ, zero, suc, ◌+◌, ◌≤◌, Bool, true, false, cond, ◌&&◌, leb, ◌⊎◌, List, [], ◌∷◌, Some, None, Option, sym, refl, subst, inl, inr, ⊎_elim, zero-add, arith}
-use Rattle.std.specs.List.{AllByRecursion as All}
+use Rattle.std.specs.List.{AllByRecursion}
 use Rattle.std.proofs.lemmas.Bool.{leb-true, ltb-false, and_parts}
 use Rattle.quantities.specs.Units.{of}
 use Rattle.quantities.specs.declared.unit.PerUnit.{PerUnit}
@@ -210,7 +210,7 @@ closes_perform w D day_mark s l = closes_same s
 
 -- ## A call, and a run of calls
 
-affords_call : (w : World) (D : ℕ) (c : Call) (s : State) → All (λ x. x.fails ≡ false) (checks w D c s) → takes w c s ≤ s.balance
+affords_call : (w : World) (D : ℕ) (c : Call) (s : State) → AllByRecursion (λ x. x.fails ≡ false) (checks w D c s) → takes w c s ≤ s.balance
 affords_call w D (top_up n) s h = omega arith
 affords_call w D (use_of v n) s h = ltb-false s.balance (charge v n s) h.1.1.1.1.0
 affords_call w D restart s h = ltb-false s.balance (awaited_fee s) h.1.1.0

@@ -1,6 +1,6 @@
 -- No column of a receipt passes what 32 bits hold, for any account within the limits.
 use Rattle.std.proofs.Common.{◌≡◌, ℕ, suc, ◌+◌, ◌*◌, ◌≤◌, false, Some, None, Option, sym, refl, subst, inl, inr, ⊎_elim, mul-le-mul, arith}
-use Rattle.std.specs.List.{AllByRecursion as All}
+use Rattle.std.specs.List.{AllByRecursion}
 use Rattle.std.proofs.lemmas.Bool.{ltb-false}
 use Rattle.std.proofs.lemmas.Bool.Decides.{nat_tests}
 use Rattle.quantities.specs.Limits.{most_grant, most_old_units, most_balance, most_use, most_top_up, last_moment, last_call_day}
@@ -66,7 +66,7 @@ beyond-serve (Some international) n s = elim [ Minutes ↦ omega arith | Megabyt
 inside : (a b n : ℕ) → outside a b n ≡ false → n ≤ b
 inside a b n h = grind (arith, nat_tests)
 
-perform_lends : (w : World) (D : ℕ) (c : Call) (s : State) → WithinLimits s.terms → All (λ x. x.fails ≡ false) (checks w D c s) →
+perform_lends : (w : World) (D : ℕ) (c : Call) (s : State) → WithinLimits s.terms → AllByRecursion (λ x. x.fails ≡ false) (checks w D c s) →
     Lends most_grant (perform w D c s).receipt
 perform_lends w D (top_up n) s h p = lends_once w.calendar D s.terms s _ h (fee_top_up w.calendar D n.0 s)
 perform_lends w D (use_of v n) s h p = λ k. (omega (arith, ungranted_serve v n s k), omega (arith, beyond-serve v n s k, inside 1 most_use n p.0))
@@ -146,7 +146,7 @@ settle_columns w y D l s h b books =
     let o = settle w (suc D) D s in
     columns_first most_column o.receipt (lapse_all D o.state).receipt (bring_up_columns w y D l s h b books)
 
-paid_most : (w : World) (D : ℕ) (c : Call) (s : State) → All (λ x. x.fails ≡ false) (checks w D c s) → paid_in c ≤ most_top_up
+paid_most : (w : World) (D : ℕ) (c : Call) (s : State) → AllByRecursion (λ x. x.fails ≡ false) (checks w D c s) → paid_in c ≤ most_top_up
 paid_most w D (top_up n) s p = inside 1 most_top_up n.0 p.0
 paid_most w D (use_of v n) s p = omega arith
 paid_most w D restart s p = omega arith

@@ -1,6 +1,6 @@
 -- Each call takes at most one fee beside renewals, and in a run each fee grants in full.
 use Rattle.std.proofs.Common.{◌≡◌, ℕ, ◌+◌, ◌≤◌, Bool, true, false, cond, ◌&&◌, leb, ◌⊎◌, Some, None, Option, sym, refl, ap, ◌∙◌, subst, inl, inr, ⊎_elim, arith}
-use Rattle.std.specs.List.{AllByRecursion as All}
+use Rattle.std.specs.List.{AllByRecursion}
 use Rattle.std.proofs.lemmas.Bool.Decides.{nat_tests}
 use Rattle.quantities.specs.Limits.{most_grant}
 use Rattle.quantities.specs.Units.{of}
@@ -217,7 +217,7 @@ module _ (w : World) (D n : ℕ) (s : State) (r : Receipt) (h : WithinLimits s.t
         ),
       )
 
-  full_call : (c : Call) → All (λ x. x.fails ≡ false) (checks w D c s) → (m : ℕ) × InFull m s.terms (entered w c) (r ⊕ (perform w D c s).receipt)
+  full_call : (c : Call) → AllByRecursion (λ x. x.fails ≡ false) (checks w D c s) → (m : ℕ) × InFull m s.terms (entered w c) (r ⊕ (perform w D c s).receipt)
   full_call (top_up k) p = full_stay _ (fee_top_up w.calendar D k.0 s)
   full_call (use_of v k) p = full_use v k
   full_call restart p = full_stay _ (fee_restart w.calendar D s)

@@ -1,6 +1,6 @@
 -- One more day mark changes no other outcome, nor the account at the end, nor a total.
 use Rattle.std.proofs.Common.{◌≡◌, ℕ, ◌≤◌, Bool, ltb, List, [], ◌∷◌, ◌++◌, length, take, drop, Some, None, Option, sym, refl, ap, ◌∙◌, subst, ap₂, subst₂, ⊎_elim, arith}
-use Rattle.std.specs.List.{AllByRecursion as All}
+use Rattle.std.specs.List.{AllByRecursion}
 use Rattle.std.proofs.lemmas.Bool.{le-ltb, ltb-false}
 use Rattle.quantities.specs.Limits.{last_moment}
 use Rattle.rules.specs.declared.call.Event.{Event}
@@ -91,7 +91,7 @@ module _ (w : World) (a : Account) (m : ℕ) (known : a.latest ≤ m) where
       ) in
       subst₂ (Agree up.receipt) q p agree
 
-  later_runs : (es : List Event) → All (λ e. m ≤ e.moment.0) es → OneAccepted (run w a es).outcomes → Agree up.receipt (run w marked es) (run w a es)
+  later_runs : (es : List Event) → AllByRecursion (λ e. m ≤ e.moment.0) es → OneAccepted (run w a es).outcomes → Agree up.receipt (run w marked es) (run w a es)
   later_runs [] h one = absurd one
   later_runs (e ∷ es) h one =
       ⊎_elim (taken e es h.0) (λ n. turned e es n.0 h.0 n.1 (later_runs es h.1) one) (told w a e)
@@ -107,7 +107,7 @@ pub not_before : (w : World) (a : Account) (e : Event) → refusal w a e ≡ Non
 not_before w a e z = ltb-false e.moment.0 a.latest (passed (all_checks w a e) z).1.0
 
 -- a mark first: refused, it changes nothing; accepted, what it does is done by the next accepted call otherwise
-mark_first : (w : World) (a : Account) (m : ℕ) (es : List Event) → All (λ e. m ≤ e.moment.0) es → OneAccepted (run w a es).outcomes →
+mark_first : (w : World) (a : Account) (m : ℕ) (es : List Event) → AllByRecursion (λ e. m ≤ e.moment.0) es → OneAccepted (run w a es).outcomes →
     Inserted 0 (run w a (marked_at m ∷ es)) (run w a es)
 unfolding up marked
 mark_first w a m es h one = ⊎_elim accept refuse (told w a (marked_at m))
@@ -129,7 +129,7 @@ mark_first w a m es h one = ⊎_elim accept refuse (told w a (marked_at m))
 
 -- from any account
 pub mark_free : (w : World) (a : Account) (before later : List Event) (m : ℕ) →
-    All (λ e. m ≤ e.moment.0) later →
+    AllByRecursion (λ e. m ≤ e.moment.0) later →
     OneAccepted (drop (length before) (run w a (before ++ later)).outcomes) →
     Inserted (length before) (run w a (before ++ (marked_at m ∷ later))) (run w a (before ++ later))
 mark_free w a [] later m h one = mark_first w a m later h one

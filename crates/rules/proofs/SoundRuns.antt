@@ -1,6 +1,6 @@
 -- Every call, and so every run, keeps an account sound, with its due day after the day of its latest call.
 use Rattle.std.proofs.Common.{◌≡◌, ℕ, ◌+◌, ◌-◌, ◌<◌, ◌≤◌, Bool, true, false, cond, ◌&&◌, leb, List, [], ◌∷◌, is_some, Some, None, Option, sym, refl, ap, ◌∙◌, subst, ⊎_elim, arith}
-use Rattle.std.specs.List.{AllByRecursion as All}
+use Rattle.std.specs.List.{AllByRecursion}
 use Rattle.std.proofs.lemmas.Bool.{leb-false, ltb-false, and_cases}
 use Rattle.quantities.specs.Limits.{most_balance}
 use Rattle.quantities.specs.Units.{of}
@@ -152,7 +152,7 @@ fit_leave w D e s r h = ⊎_elim idle busy (stands s)
         let p : wipe_or_keep wiping_by_switch wipes d.0 (new_due w.calendar D) s ≡ leave_plan w.calendar D e s = cc in
         subst (λ (o : Out). Fit o.state) p (fit_wipe_or_keep w wiping_by_switch wipes d D s a r h)
 
-ready_perform : (w : World) (D : ℕ) (c : Call) (s : State) → All (λ x. x.fails ≡ false) (checks w D c s) → Ready w.calendar D s →
+ready_perform : (w : World) (D : ℕ) (c : Call) (s : State) → AllByRecursion (λ x. x.fails ≡ false) (checks w D c s) → Ready w.calendar D s →
     Ready w.calendar D (perform w D c s).state
 unfolding Rests
 ready_perform w D (top_up n) s h r = ready_top_up w.calendar D n.0 s (ltb-false most_balance (s.balance + n.0) h.1.0) r

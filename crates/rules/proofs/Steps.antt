@@ -1,6 +1,6 @@
 -- A call is accepted where no check fails, and refused as the first that fails is told.
 use Rattle.std.proofs.Common.{◌≡◌, ℕ, Bool, true, false, ◌⊎◌, List, [], ◌∷◌, Some, None, Option, sym, refl, ap, inl, inr, arith}
-use Rattle.std.specs.List.{AllByRecursion as All}
+use Rattle.std.specs.List.{AllByRecursion}
 use Rattle.rules.specs.declared.call.Event.{Event}
 use Rattle.rules.specs.State.{World, Account}
 use Rattle.rules.specs.Checks.{Refusal, Check, first_refusal, refusal}
@@ -25,11 +25,11 @@ pub not_both : (f : Refusal) → ◌≡◌ {A = Option Refusal} (Some f) None �
 not_both f e = let z : ◌≡◌ {A = ℕ} 0 1 = cc in omega arith
 
 -- where nothing is told, each check passes
-pub passed : (cs : List Check) → first_refusal cs ≡ None → All (λ c. c.fails ≡ false) cs
+pub passed : (cs : List Check) → first_refusal cs ≡ None → AllByRecursion (λ c. c.fails ≡ false) cs
 passed [] e = tt
 passed (c ∷ cs) e = go (passed cs) c.fails refl
   where
-    go : (first_refusal cs ≡ None → All (λ c. c.fails ≡ false) cs) → (t : Bool) → c.fails ≡ t → (c.fails ≡ false) × All (λ c. c.fails ≡ false) cs
+    go : (first_refusal cs ≡ None → AllByRecursion (λ c. c.fails ≡ false) cs) → (t : Bool) → c.fails ≡ t → (c.fails ≡ false) × AllByRecursion (λ c. c.fails ≡ false) cs
     go ih true f = let z : Some c.told ≡ None = cc in absurd (not_both c.told z)
     go ih false f = let z : first_refusal cs ≡ None = cc in (f, ih z)
 

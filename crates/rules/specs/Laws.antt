@@ -1,6 +1,6 @@
 -- The laws of every run of calls.
 use Rattle.std.specs.Prelude.{◌≡◌, ℕ, ◌+◌, ◌≤◌, ◌⊎◌, List, [], ◌∷◌, ◌++◌, length, take, drop, Some, None, Option}
-use Rattle.std.specs.List.{AllByRecursion as All}
+use Rattle.std.specs.List.{AllByRecursion}
 use Rattle.quantities.specs.Units.{of}
 use Rattle.quantities.specs.declared.unit.UnitKind.{UnitKind}
 use Rattle.tariff.specs.Terms.{Terms}
@@ -65,7 +65,7 @@ OneAccepted (o ∷ os) = (o ≡ None) ⊎ OneAccepted os
 abbrev pub DayMarkFree : Type 0
 DayMarkFree =
     (w : World) (c : ℕ) (t : Terms) (opening : ℕ) (before later : List Event) (m : ℕ) →
-    All (λ e. m ≤ e.moment.0) later →
+    AllByRecursion (λ e. m ≤ e.moment.0) later →
     let a = opened c t opening in
     let plain = run w a (before ++ later) in
     let marked = run w a (before ++ (marked_at m ∷ later)) in
