@@ -51,4 +51,11 @@ impl Trailer {
             moment: Moment(u32::from_le_bytes([i, j, k, l])),
         })
     }
+
+    // How many records the file has.
+    pub fn records(self) -> u32
+        ensures { result ≡ self.count }
+    {
+        self.count
+    }
 }

@@ -1,3 +1,4 @@
 pub mod Postings
 pub mod Coded
+pub mod Journals
 pub mod FileLaw

@@ -48,7 +48,7 @@ pub struct Run<L, B> {
 }
 
 // Opens the account that a trailer names. A refused opening lets the line and the books go.
-fn open_by<L: Line + Drop, B: Book + Drop>(
+pub(crate) fn open_by<L: Line + Drop, B: Book + Drop>(
     trailer: Trailer,
     line: L,
     books: PerUnit<B>,

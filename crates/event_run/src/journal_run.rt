@@ -1,0 +1,75 @@
+// The run over a file that posts to a journal, one record after another, and keeps no list of what it posts.
+ghost use Rattle.std.specs.Prelude.{◌≡◌, [], IfOk, Some, OnErr, OnOk};
+ghost use Rattle.account.specs.Meaning.{account_of, world};
+ghost use Rattle.event_file.specs.Reader.{coming, position, end};
+ghost use Rattle.event_run.specs.Postings.{postings, closing, refused_file, file_postings, file_closing};
+ghost use Rattle.event_run.specs.Coded.{file_outcome_of};
+ghost use Rattle.event_run.specs.Journals.{Taken};
+ghost use Rattle.event_run.specs.FileLaw.{LawOfFile};
+
+use crate::journal::Journal;
+use crate::post::post;
+use crate::run::open_by;
+use account::account::Account;
+use book::meaning::Book;
+use event_file::file_fault::FileFault;
+use event_file::records::Records;
+use event_file::trailer::Trailer;
+use quantities::unit::PerUnit;
+use tariff::line::Line;
+
+// Posts the records that are still to come, one after another; a refused record doesn't stop it.
+pub fn post_records<L: Line, B: Book, J: Journal>(
+    account: &mut Account<L, B>,
+    records: &mut Records<'_>,
+    journal: &mut J,
+)
+    ensures posted { Taken J.Journal.takes journal.old (postings (world L.Line.terms L.Line.entry L.Line.lawful account.old.line B.Book.most) (account_of B.Book.means account.old) (coming records.old)) journal.new }
+    ensures account { account_of B.Book.means account.new ≡ closing (world L.Line.terms L.Line.entry L.Line.lawful account.old.line B.Book.most) (account_of B.Book.means account.old) (coming records.old) }
+    ensures line { account.new.line ≡ account.old.line }
+    ensures read { coming records.new ≡ [] }
+    ensures position { position records.new ≡ end records.old }
+{
+    while let Some(part) = records.next_part() {
+        let posted = post(account, part);
+        journal.post(posted);
+    }
+}
+
+fn post_trailed<L: Line + Drop, B: Book + Drop, J: Journal>(
+    file: &[u8],
+    line: L,
+    books: PerUnit<B>,
+    journal: &mut J,
+) -> Result<Account<L, B>, FileFault>
+    ensures refused { file_outcome_of result ≡ refused_file (world L.Line.terms L.Line.entry L.Line.lawful line B.Book.most) file.now }
+    ensures posted { OnOk result (Taken J.Journal.takes journal.old (file_postings (world L.Line.terms L.Line.entry L.Line.lawful line B.Book.most) file.now) journal.new) }
+    ensures account { IfOk result (λ a. Some (account_of B.Book.means a) ≡ file_closing (world L.Line.terms L.Line.entry L.Line.lawful line B.Book.most) file.now) }
+    ensures line { IfOk result (λ a. a.line ≡ line) }
+    ensures same { OnErr result (journal.new ≡ journal.old) }
+{
+    let trailer = Trailer::of(file)?;
+    let mut account = open_by(trailer, line, books)?;
+    let mut records = Records::over(file, trailer);
+    post_records(&mut account, &mut records, journal);
+    Ok(account)
+}
+
+// Opens the account that the file names on the line, with the books, and makes the call of each record. What became of
+// each is posted to the journal; a refused file or opening posts nothing.
+pub fn post_file<L: Line + Drop, B: Book + Drop, J: Journal>(
+    file: &[u8],
+    line: L,
+    books: PerUnit<B>,
+    journal: &mut J,
+) -> Result<Account<L, B>, FileFault>
+    ensures refused { file_outcome_of result ≡ refused_file (world L.Line.terms L.Line.entry L.Line.lawful line B.Book.most) file.now }
+    ensures posted { OnOk result (Taken J.Journal.takes journal.old (file_postings (world L.Line.terms L.Line.entry L.Line.lawful line B.Book.most) file.now) journal.new) }
+    ensures account { IfOk result (λ a. Some (account_of B.Book.means a) ≡ file_closing (world L.Line.terms L.Line.entry L.Line.lawful line B.Book.most) file.now) }
+    ensures line { IfOk result (λ a. a.line ≡ line) }
+    ensures same { OnErr result (journal.new ≡ journal.old) }
+    ensures law { IfOk result (λ a. LawOfFile (world L.Line.terms L.Line.entry L.Line.lawful line B.Book.most) file.now (file_postings (world L.Line.terms L.Line.entry L.Line.lawful line B.Book.most) file.now) (account_of B.Book.means a)) }
+{
+    let account = post_trailed(file, line, books, journal)?;
+    Ok(account)
+}
