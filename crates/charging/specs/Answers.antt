@@ -1,15 +1,13 @@
 -- What a host is answered: 0 where its call was made, and otherwise the number of the refusal.
-use Rattle.std.specs.Prelude.{ℕ, ◌*◌, Bool, cond, ◌||◌, List, [], ◌++◌, length, Some, None, Ok, Err, Option, Result, ◌==◌, nat_lt}
+use Rattle.std.specs.Prelude.{ℕ, ◌*◌, Bool, cond, ◌||◌, List, [], ◌++◌, Some, None, Ok, Err, Option, Result, ◌==◌, nat_lt}
 use Rattle.rules.specs.Receipt.{Receipt}
 use Rattle.rules.specs.State.{World, Account}
-use Rattle.rules.specs.Checks.{Refusal}
-use Rattle.rules.specs.Runs.{opening_refusal}
 use Rattle.fault.specs.Faults as account
 use Rattle.event_file.specs.FileFaults as file
 use Rattle.event_file.specs.Layout.{count, file_right}
 use Rattle.event_run.specs.Postings.{PlacedRefusal, refused_file}
-use Rattle.charging.specs.declared.fault.HostFault.{HostFault}
-use Rattle.charging.specs.declared.fault.HostFault.TheVariants.{TooShort, NoSuchBooks, File, Opening}
+use Rattle.charging.specs.declared.host_fault.HostFault.{HostFault}
+use Rattle.charging.specs.declared.host_fault.HostFault.TheVariants.{TooShort, NoSuchBooks, File, Opening}
 use Rattle.charging.specs.Rows.{receipt_row, state_row}
 
 -- A refusal of the engine keeps its number; memory that is too short is 100, and books that aren't to be had are 101.
@@ -27,10 +25,6 @@ abbrev pub file_number : Option PlacedRefusal → ℕ
 file_number None = 0
 file_number (Some f) = f.refusal.number
 
-abbrev pub opening_number : Option Refusal → ℕ
-opening_number None = 0
-opening_number (Some f) = f.number
-
 -- Books have room for 31 old lots, or for one.
 abbrev pub has_books : ℕ → Bool
 has_books lots = lots == 31 || lots == 1
@@ -42,12 +36,9 @@ with_books lots answer = cond (has_books lots) answer 101
 abbrev pub life_columns : ℕ
 life_columns = 30
 
--- Totals of a file, or of a bare row of records, take room for one row.
+-- Totals of a file take room for one row.
 abbrev pub totals_answer : World → List ℕ → ℕ → ℕ
 totals_answer w bytes room = cond (nat_lt room life_columns) 100 (file_number (refused_file w bytes))
-
-abbrev pub series_answer : World → ℕ → ℕ → ℕ → ℕ
-series_answer w plan moment room = cond (nat_lt room life_columns) 100 (opening_number (opening_refusal w plan moment))
 
 -- The row: the columns of all receipts added up, and how the account stands at the end.
 abbrev pub life_row : Receipt → Option Account → List ℕ

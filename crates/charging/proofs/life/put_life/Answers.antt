@@ -13,7 +13,7 @@ returns g c =
     let first = receipt_row (receipt_of life.total) in
     let second = state_row (account_of g.B.Book.means life.account).state in
     c.put-2.ensures
-    ∙ ap (λ xs. overlaid 24 c.state-row.result xs) c.put.ensures
-    ∙ ap (λ row. overlaid 24 c.state-row.result (overlaid 0 row out)) c.receipt-row.ensures
-    ∙ ap (λ row. overlaid 24 row (overlaid 0 first out)) c.state-row.ensures
+    ∙ ap (λ xs. overlaid 24 c.state_row.result xs) c.put.ensures
+    ∙ ap (λ row. overlaid 24 c.state_row.result (overlaid 0 row out)) c.receipt_row.ensures
+    ∙ ap (λ row. overlaid 24 row (overlaid 0 first out)) c.state_row.ensures
     ∙ overlaid_next 0 first second out (omega arith)

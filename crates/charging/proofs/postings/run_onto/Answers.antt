@@ -1,5 +1,5 @@
 -- What the run posts stands in the rows; a refused file leaves them.
-use Rattle.std.proofs.Common.{length, None, refl, ap, ◌∙◌, arith}
+use Rattle.std.proofs.Common.{length, ap, ◌∙◌, arith}
 use Rattle.std.proofs.lemmas.Result.{err_from_is_err_and}
 use Rattle.event_run.specs.Postings.{file_postings}
 use Rattle.totals.proofs.Sums.{postings-few, right_file}
@@ -11,13 +11,13 @@ use Rattle.charging.proofs.Answering.{told_number}
 use Rattle.charging.proofs.PostingRows.{rows_taken}
 use Rattle.charging.proofs.postings.run_onto.Goals as goal
 
-pub returns-in-err-run-file : goal.returns-in-err-run-file
-returns-in-err-run-file g c =
-    let p = err_from_is_err_and c.from-residual.result c.from-residual.ensures.1 in
-    let told = c.in-err-run-file.ensures in
+pub returns-in_err-post_file : goal.returns-in_err-post_file
+returns-in_err-post_file g c =
+    let p = err_from_is_err_and c.from_residual.result c.from_residual.ensures.1 in
+    let told = c.in_err-post_file.ensures in
     rw (p.1, p.2)
     record {
-      answer = told_number c.in-err-run-file.field-0.0 ∙ ap file_number told.refused;
+      answer = told_number c.in_err-post_file.field-0.0 ∙ ap file_number told.refused;
       lent = ap (λ (r : Rows). r.rows.ghost_name) told.same;
       long = ap (λ (r : Rows). length r.rows.now) told.same;
       rows = ap (λ (r : Rows). r.rows.now) told.same;
@@ -29,10 +29,10 @@ returns g c =
     let file = c.args.file.now in
     let rows = c.args.rows.now in
     let ps = file_postings w file in
-    let told = c.in-ok-run-file.ensures in
+    let told = c.in_ok-post_file.ensures in
     let (empty, room) = c.requires in
     let fits = room (right_file w file told.refused) in
-    let rowed = rows_taken rows ps c.run-file.new.journal (omega (arith, postings-few w file)) told.posted in
+    let rowed = rows_taken rows ps c.post_file.new.journal (omega (arith, postings-few w file)) told.posted in
     record {
       answer = ap file_number told.refused;
       lent = rowed.same;

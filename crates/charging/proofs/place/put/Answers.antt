@@ -8,5 +8,5 @@ returns c =
     let at = c.args.at in
     let row = c.args.row.now in
     let out = c.args.out.now in
-    ap (λ after. take at out ++ (c.copy-from-slice.new.self ++ after)) (Post-is at (at + length row) out (omega arith))
-    ∙ ap (λ placed. take at out ++ (placed ++ drop (at + length row) out)) c.copy-from-slice.ensures.after
+    ap (λ after. take at out ++ (c.copy_from_slice.new.self ++ after)) (Post-is at (at + length row) out (omega arith))
+    ∙ ap (λ placed. take at out ++ (placed ++ drop (at + length row) out)) c.copy_from_slice.ensures.after

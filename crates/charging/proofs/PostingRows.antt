@@ -1,5 +1,5 @@
 -- The rows of postings: each has 30 numbers, and they stand one after another.
-use Rattle.std.proofs.Common.{◌≡◌, ℕ, ◌+◌, ◌*◌, ◌≤◌, List, [], ◌∷◌, ◌++◌, length, take, drop, Some, None, Option, sym, refl, ap, ◌∙◌, subst, arith, length-append, take-append-drop}
+use Rattle.std.proofs.Common.{◌≡◌, ℕ, ◌+◌, ◌*◌, ◌≤◌, List, [], ◌∷◌, ◌++◌, length, take, drop, Some, None, Option, sym, refl, ap, ◌∙◌, arith, length-append, take-append-drop}
 use Rattle.rules.specs.Checks.{Concern}
 use Rattle.event_run.specs.Postings.{PlacedRefusal, Posting}
 use Rattle.event_run.specs.Journals.{Taken}

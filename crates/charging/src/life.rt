@@ -2,21 +2,19 @@
 ghost use Rattle.std.specs.Prelude.{◌≡◌, ◌≤◌, ◌++◌, length, is_ok, if◌then◌else◌};
 ghost use Rattle.receipt.specs.Columns.{receipt_of};
 ghost use Rattle.account.specs.Meaning.{account_of};
-ghost use Rattle.event_run.specs.Postings.{file_postings, file_closing, series_postings, series_closing};
+ghost use Rattle.event_run.specs.Postings.{file_postings, file_closing};
 ghost use Rattle.event_run.specs.FileLaw.{total};
 ghost use Rattle.carrier.specs.World.{three_lines};
 ghost use Rattle.charging.specs.Rows.{overlaid, receipt_row, state_row};
-ghost use Rattle.charging.specs.Answers.{answer_of, life_columns, totals_answer, series_answer, life_row};
+ghost use Rattle.charging.specs.Answers.{answer_of, life_columns, totals_answer, life_row};
 
-use crate::fault::HostFault;
+use crate::host_fault::HostFault;
 use crate::place::put;
 use crate::row::{receipt_row, state_row};
 use book::meaning::Book;
 use plans::three_lines::{ThreeLines, three_lines};
-use quantities::time::Moment;
 use quantities::unit::PerUnit;
-use tariff::terms::PlanCode;
-use totals::life::{Life, life_of_file, life_of_series};
+use totals::life::{Life, life_of_file};
 
 // How many numbers a row of totals has.
 const LIFE_COLUMNS: usize = 30;
@@ -42,24 +40,6 @@ pub(crate) fn write_totals<B: Book + Drop>(
         return Err(HostFault::TooShort);
     }
     let life = life_of_file(file, three_lines(), books)?;
-    put_life(&life, out);
-    Ok(())
-}
-
-pub(crate) fn write_series_totals<B: Book + Drop>(
-    plan: PlanCode,
-    moment: Moment,
-    series: &[u8],
-    books: PerUnit<B>,
-    out: &mut [u64],
-) -> Result<(), HostFault>
-    ensures answer { answer_of result ≡ series_answer (three_lines B.Book.most) plan.0 moment.0 (length out.old) }
-    ensures out { out.new ≡ (if is_ok result then overlaid 0 (life_row (total (series_postings (three_lines B.Book.most) plan.0 moment.0 series.now)) (series_closing (three_lines B.Book.most) plan.0 moment.0 series.now)) out.old else out.old) }
-{
-    if out.len() < LIFE_COLUMNS {
-        return Err(HostFault::TooShort);
-    }
-    let life = life_of_series(series, three_lines(), books, plan, moment)?;
     put_life(&life, out);
     Ok(())
 }

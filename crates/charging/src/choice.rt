@@ -1,18 +1,16 @@
 // The kind of books is picked by the old lots that each has room for: 31 or 1.
 ghost use Rattle.std.specs.Prelude.{◌≡◌, length, if◌then◌else◌, nat_eq};
-ghost use Rattle.event_run.specs.Postings.{file_postings, file_closing, series_postings, series_closing};
+ghost use Rattle.event_run.specs.Postings.{file_postings, file_closing};
 ghost use Rattle.event_run.specs.FileLaw.{total};
 ghost use Rattle.carrier.specs.World.{three_lines};
 ghost use Rattle.charging.specs.Rows.{overlaid, posting_rows};
-ghost use Rattle.charging.specs.Answers.{with_books, totals_answer, series_answer, life_row, postings_answer};
+ghost use Rattle.charging.specs.Answers.{with_books, totals_answer, life_row, postings_answer};
 
 use crate::answer::answer;
-use crate::fault::HostFault;
-use crate::life::{write_series_totals, write_totals};
+use crate::host_fault::HostFault;
+use crate::life::write_totals;
 use crate::postings::write_postings;
 use carrier::books::{small_books, table_books};
-use quantities::time::Moment;
-use tariff::terms::PlanCode;
 
 pub(crate) fn totals(file: &[u8], lots: u32, out: &mut [u64]) -> u32
     ensures answer { result ≡ with_books lots (totals_answer (three_lines lots) file.now (length out.old)) }
@@ -21,23 +19,6 @@ pub(crate) fn totals(file: &[u8], lots: u32, out: &mut [u64]) -> u32
     match lots {
         31 => answer(write_totals(file, table_books(), out)),
         1 => answer(write_totals(file, small_books(), out)),
-        _ => HostFault::NoSuchBooks.number(),
-    }
-}
-
-pub(crate) fn series_totals(
-    plan: PlanCode,
-    moment: Moment,
-    series: &[u8],
-    lots: u32,
-    out: &mut [u64],
-) -> u32
-    ensures answer { result ≡ with_books lots (series_answer (three_lines lots) plan.0 moment.0 (length out.old)) }
-    ensures out { out.new ≡ (if nat_eq result 0 then overlaid 0 (life_row (total (series_postings (three_lines lots) plan.0 moment.0 series.now)) (series_closing (three_lines lots) plan.0 moment.0 series.now)) out.old else out.old) }
-{
-    match lots {
-        31 => answer(write_series_totals(plan, moment, series, table_books(), out)),
-        1 => answer(write_series_totals(plan, moment, series, small_books(), out)),
         _ => HostFault::NoSuchBooks.number(),
     }
 }

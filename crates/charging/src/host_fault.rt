@@ -1,6 +1,6 @@
 // Why a host's call is refused.
 ghost use Rattle.std.specs.Prelude.{◌≡◌};
-ghost use Rattle.charging.specs.declared.fault.HostFault.TheVariants as host_fault;
+ghost use Rattle.charging.specs.declared.host_fault.HostFault.TheVariants as host_fault;
 
 use event_file::file_fault::FileFault;
 use fault::account::Fault;

@@ -4,7 +4,7 @@
 mod answer;
 mod choice;
 pub mod export;
-pub mod fault;
+pub mod host_fault;
 mod life;
 mod place;
 mod posting;

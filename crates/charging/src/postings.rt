@@ -6,13 +6,12 @@ ghost use Rattle.carrier.specs.World.{three_lines};
 ghost use Rattle.charging.specs.Rows.{overlaid, posting_rows};
 ghost use Rattle.charging.specs.Answers.{answer_of, file_number, posting_columns, postings_answer};
 
-use crate::fault::HostFault;
+use crate::host_fault::HostFault;
 use crate::posting::POSTING_COLUMNS;
 use crate::rows::Rows;
 use book::meaning::Book;
 use event_file::trailer::Trailer;
-use event_run::journal::Journal;
-use event_run::run::run_file;
+use event_run::journal_run::post_file;
 use plans::three_lines::three_lines;
 use quantities::unit::PerUnit;
 
@@ -28,7 +27,7 @@ fn run_onto<B: Book + Drop>(
     ensures long { length rows.new.rows.now ≡ length rows.old.rows.now }
     ensures rows { rows.new.rows.now ≡ (if is_ok result then overlaid 0 (posting_rows (file_postings (three_lines B.Book.most) file.now)) rows.old.rows.now else rows.old.rows.now) }
 {
-    let _ = run_file(file, three_lines(), books, rows)?;
+    let _ = post_file(file, three_lines(), books, rows)?;
     Ok(())
 }
 

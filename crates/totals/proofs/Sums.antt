@@ -1,20 +1,20 @@
 -- Totals of a run are exact: no column of a receipt passes what 32 bits hold, and there are few enough receipts.
-use Rattle.std.proofs.Common.{◌≡◌, ℕ, zero, suc, ◌+◌, ◌-◌, ◌*◌, ◌/◌, ◌^◌, ◌<◌, ◌≤◌, min, Bool, true, false, cond, leb, List, [], ◌∷◌, length, Some, None, Option, sym, refl, ap, ◌∙◌, subst, arith}
+use Rattle.std.proofs.Common.{◌≡◌, ℕ, zero, suc, ◌+◌, ◌-◌, ◌*◌, ◌^◌, ◌<◌, ◌≤◌, Bool, true, false, cond, leb, List, [], ◌∷◌, length, Some, None, Option, sym, refl, ap, ◌∙◌, subst, arith}
 use Rattle.std.proofs.lemmas.Bool.{and_parts, leb-true, eqb-true}
 use Rattle.quantities.specs.declared.unit.UnitKind.TheVariants.{Minutes, Megabytes, Messages}
 use Rattle.rules.specs.Receipt.{Receipt, nothing, ◌⊕◌}
 use Rattle.rules.specs.State.{World, Account}
-use Rattle.rules.specs.Runs.{opening, opening_refusal}
+use Rattle.rules.specs.Runs.{opening_refusal}
 use Rattle.rules.specs.Bounds.{most_column, ColumnsWithin, HundredYears}
 use Rattle.rules.proofs.Receipts.{⊕_assoc, nothing-⊕, ⊕-nothing}
 use Rattle.rules.proofs.Columns.{columns_nothing}
 use Rattle.receipt.specs.Columns.{receipt_of, AllBelow}
 use Rattle.event_file.specs.Layout.{most_bytes, first_offset, count, opening_plan, opening_moment, spare_right, file_right}
-use Rattle.event_file.specs.Parts.{Placed, parts_from, parts, most_records, series_parts}
+use Rattle.event_file.specs.Parts.{Placed, parts_from, parts}
 use Rattle.event_run.specs.Postings.{Posting, answer_at, placed_outcome, postings, postings_from, no_place, wrong_file, refused_file, opened_by, file_postings}
 use Rattle.event_run.specs.Journals.{Taken}
 use Rattle.event_run.specs.FileLaw.{total}
-use Rattle.event_run.proofs.FileBounds.{AllWithin, from_within}
+use Rattle.event_run.proofs.FileBounds.{AllWithin, file_within}
 use Rattle.totals.specs.declared.totals.Totals.{Totals}
 use Rattle.totals.specs.Adding.{Adds}
 
@@ -28,13 +28,13 @@ length-postings : (w : World) (a : Account) (ps : List Placed) → length (posti
 length-postings w a [] = refl
 length-postings w a (p ∷ ps) = ap suc (length-postings w (answer_at w a p).account ps)
 
-length_from : (o : Option Account) (w : World) (ps : List Placed) → length (postings_from o w ps) ≤ length ps
-length_from None w ps = omega arith
-length_from (Some a) w ps = omega (arith, length-postings w a ps)
+length_from : (o : Option Account) (w : World) (file : List ℕ) → length (postings_from o w file) ≤ length (parts file)
+length_from None w file = omega arith
+length_from (Some a) w file = omega (arith, length-postings w a (parts file))
 
 -- a file has at most as many postings as records
 pub postings-few : (w : World) (file : List ℕ) → length (file_postings w file) ≤ count file
-postings-few w file = omega (arith, length_from (opened_by w file) w (parts file), length-parts file (first_offset file) 0 (count file))
+postings-few w file = omega (arith, length_from (opened_by w file) w file, length-parts file (first_offset file) 0 (count file))
 
 -- a file that isn't refused is a right one
 pub right_file : (w : World) (file : List ℕ) → None ≡ refused_file w file → file_right file ≡ true
@@ -90,16 +90,6 @@ total_taken x (p ∷ ps) y n h few within taken =
 none_within : ColumnsWithin (0 * most_column) nothing
 none_within = columns_nothing (0 * most_column)
 
--- the totals of the records of an opening, where there are few enough
-pub total-from : (w : World) (c m : ℕ) (ps : List Placed) (x y : Totals) → HundredYears w.calendar → receipt_of x.receipt ≡ nothing → length ps ≤ most_receipts →
-    Taken Adds x (postings_from (opening w c m) w ps) y → receipt_of y.receipt ≡ total (postings_from (opening w c m) w ps)
-total-from w c m ps x y years none few taken =
-    let posted = postings_from (opening w c m) w ps in
-    let start : ColumnsWithin (0 * most_column) (receipt_of x.receipt) = subst (ColumnsWithin (0 * most_column)) (sym none) none_within in
-    total_taken x posted y 0 start (omega (arith, length_from (opening w c m) w ps)) (from_within w years c m ps) taken
-    ∙ ap (λ r. r ⊕ total posted) none
-    ∙ nothing-⊕ (total posted)
-
 pub few_in_file : (w : World) (file : List ℕ) → None ≡ refused_file w file → length (parts file) ≤ most_receipts
 few_in_file w file h =
     let right = right_file w file h in
@@ -108,5 +98,13 @@ few_in_file w file h =
     let (spare, filled) = and_parts (spare_right file) _ others in
     omega (arith, leb-true (length file) most_bytes short, eqb-true (first_offset file + 16 * count file) (length file - 16) filled, length-parts file (first_offset file) 0 (count file))
 
-pub few_in_series : (series : List ℕ) → length (series_parts series) ≤ most_receipts
-few_in_series series = omega (arith, length-parts series 0 0 (min (length series / 16) most_records))
+-- the totals of a file's records
+pub total_of_file : (w : World) (file : List ℕ) (x y : Totals) → HundredYears w.calendar → receipt_of x.receipt ≡ nothing → None ≡ refused_file w file →
+    Taken Adds x (file_postings w file) y → receipt_of y.receipt ≡ total (file_postings w file)
+total_of_file w file x y years none right taken =
+    let posted = file_postings w file in
+    let start : ColumnsWithin (0 * most_column) (receipt_of x.receipt) = subst (ColumnsWithin (0 * most_column)) (sym none) none_within in
+    let few = few_in_file w file right in
+    total_taken x posted y 0 start (omega (arith, length_from (opened_by w file) w file)) (file_within w years file) taken
+    ∙ ap (λ r. r ⊕ total posted) none
+    ∙ nothing-⊕ (total posted)

@@ -2,7 +2,7 @@
 ghost use Rattle.std.specs.Prelude.{◌≡◌};
 ghost use Rattle.charging.specs.Answers.{host_number, answer_of};
 
-use crate::fault::HostFault;
+use crate::host_fault::HostFault;
 
 impl HostFault {
     pub fn number(self) -> u32
