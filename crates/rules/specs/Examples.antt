@@ -44,7 +44,7 @@ told_number (Some f) = f.number
 
 -- the examples, for a world with this line
 pub record Worked (w : World) : Type 0 where
-  -- Started on 31 January 2000, day 30, the account has its due day on 29 February, day 59. A top_up at 00:00 of that
+  -- Started on 31 January 2000, day 30, the account has its due day on 29 February, day 59. A top-up at 00:00 of that
   -- day is late: the account is blocked first, its fresh units late, and starts anew with the 29th as its anchor.
   pub late_status : (step w (started w 30 10) (on_day 59 (paying 10))).account.state.status ≡ active (record { 0 = 88 })
   pub late_anchor : (step w (started w 30 10) (on_day 59 (paying 10))).account.state.anchor ≡ Some (record { 0 = 29 })

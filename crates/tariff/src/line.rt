@@ -11,7 +11,7 @@ pub trait Line: Sized {
     // what it takes to come from the plan of one code to that of another, where a way leads there
     ghost entry: { Self → ℕ → ℕ → Option PlanEntry };
 
-    // The limits, as a member and not a law: a trait with a law can't be implemented by a line that borrows its bytes.
+    // The limits, which every line proves of its tables.
     ghost lawful: { (l : Self) → Lawful (terms l) (entry l) };
 
     fn terms(&self, code: PlanCode) -> Option<Terms>
