@@ -1,7 +1,7 @@
 -- What an account of the code means, and the world that its rules are read from.
 use Rattle.std.specs.Prelude.{ℕ, Some, None, Option}
 use Rattle.quantities.specs.declared.time.Day.{Day}
-use Rattle.tariff.specs.Terms.{Terms, Entry, Lawful}
+use Rattle.tariff.specs.Terms.{Tariff}
 use Rattle.book.specs.Allowance.{Allowance}
 use Rattle.rules.specs.declared.call.Status.{Status}
 use Rattle.rules.specs.declared.call.Status.TheVariants.{Blocked, Active}
@@ -17,9 +17,14 @@ abbrev pub account_of : {L B : Type 0} → (B → Allowance) → Account L B →
 account_of means a = record { latest = a.latest.0; state = state_of means a.ledger }
 
 -- the Gregorian calendar, a line's tables and a capacity
-abbrev pub world : {L : Type 0} (terms : L → ℕ → Option Terms) (entry : L → ℕ → ℕ → Option Entry) →
-    ((l : L) → Lawful (terms l) (entry l)) → L → ℕ → World
-world terms entry lawful l most = record { calendar = gregorian; terms = terms l; entry = entry l; capacity = most; lawful = lawful l }
+abbrev pub world : {L : Type 0} → (L → Tariff) → L → ℕ → World
+world tariff l most = record {
+  calendar = gregorian;
+  terms = (tariff l).terms;
+  entry = (tariff l).entry;
+  capacity = most;
+  lawful = (tariff l).lawful;
+}
 
 -- how a call came out, the account after it and its receipt
 abbrev pub answer : Option Refusal → Meant → Receipt → Answer

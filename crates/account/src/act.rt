@@ -19,7 +19,7 @@ use tariff::line::Line;
 impl<L: Line, B: Book> Account<L, B> {
     // Judges the call by reading; only an accepted one changes the account and fills the receipt.
     fn make(&mut self, event: Event, receipt: &mut Receipt) -> Result<(), Fault>
-        ensures does { answer (outcome_of result) (account_of B.Book.means self.new) (receipt_of receipt.new) ≡ step (world L.Line.terms L.Line.entry L.Line.lawful self.old.line B.Book.most) (account_of B.Book.means self.old) event }
+        ensures does { answer (outcome_of result) (account_of B.Book.means self.new) (receipt_of receipt.new) ≡ step (world L.Line.tariff self.old.line B.Book.most) (account_of B.Book.means self.old) event }
         ensures line { self.new.line ≡ self.old.line }
         ensures same { is_ok result ≡ false → self.new ≡ self.old }
     {
@@ -40,7 +40,7 @@ impl<L: Line, B: Book> Account<L, B> {
 
     // Any call, by its event. The receipt is set whole, whatever it held, each column within its bound.
     pub fn act(&mut self, event: Event, receipt: &mut Receipt) -> Result<(), Fault>
-        ensures does { answer (outcome_of result) (account_of B.Book.means self.new) (receipt_of receipt.new) ≡ step (world L.Line.terms L.Line.entry L.Line.lawful self.old.line B.Book.most) (account_of B.Book.means self.old) event }
+        ensures does { answer (outcome_of result) (account_of B.Book.means self.new) (receipt_of receipt.new) ≡ step (world L.Line.tariff self.old.line B.Book.most) (account_of B.Book.means self.old) event }
         ensures line { self.new.line ≡ self.old.line }
         ensures same { is_ok result ≡ false → self.new ≡ self.old }
         ensures columns { ColumnsWithin most_column (receipt_of receipt.new) }

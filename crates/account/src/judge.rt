@@ -97,7 +97,7 @@ fn judge_top_up<L: Line, B: Book>(
     day: CallDay,
     sums: Sums,
 ) -> Result<(), Fault>
-    ensures told { outcome_of result ≡ first_refusal (checks (world L.Line.terms L.Line.entry L.Line.lawful line.now B.Book.most) day.day.0 (top_up_call sums) (lapse_all day.day.0 (state_of B.Book.means ledger.now)).state) }
+    ensures told { outcome_of result ≡ first_refusal (checks (world L.Line.tariff line.now B.Book.most) day.day.0 (top_up_call sums) (lapse_all day.day.0 (state_of B.Book.means ledger.now)).state) }
 {
     if sums.0 < 1 || sums.0 > MOST_TOP_UP {
         return Err(Fault::AmountOutOfRange);
@@ -115,7 +115,7 @@ fn judge_use<L: Line, B: Book>(
     service: Option<Service>,
     n: u32,
 ) -> Result<(), Fault>
-    ensures told { outcome_of result ≡ first_refusal (checks (world L.Line.terms L.Line.entry L.Line.lawful line.now B.Book.most) day.day.0 (use_call service n) (lapse_all day.day.0 (state_of B.Book.means ledger.now)).state) }
+    ensures told { outcome_of result ≡ first_refusal (checks (world L.Line.tariff line.now B.Book.most) day.day.0 (use_call service n) (lapse_all day.day.0 (state_of B.Book.means ledger.now)).state) }
 {
     if n < 1 || n > MOST_USE {
         return Err(Fault::AmountOutOfRange);
@@ -145,7 +145,7 @@ fn fee_taken_on<B: Book>(ledger: &Ledger<B>, day: Day) -> bool
 }
 
 fn judge_restart<L: Line, B: Book>(ledger: &Ledger<B>, line: &L, day: CallDay) -> Result<(), Fault>
-    ensures told { outcome_of result ≡ first_refusal (checks (world L.Line.terms L.Line.entry L.Line.lawful line.now B.Book.most) day.day.0 restart_call (lapse_all day.day.0 (state_of B.Book.means ledger.now)).state) }
+    ensures told { outcome_of result ≡ first_refusal (checks (world L.Line.tariff line.now B.Book.most) day.day.0 restart_call (lapse_all day.day.0 (state_of B.Book.means ledger.now)).state) }
 {
     let Status::Active(due) = ledger.status else {
         return Err(Fault::Blocked);
@@ -165,7 +165,7 @@ fn judge_switch<L: Line, B: Book>(
     day: CallDay,
     code: PlanCode,
 ) -> Result<(), Fault>
-    ensures told { outcome_of result ≡ first_refusal (checks (world L.Line.terms L.Line.entry L.Line.lawful line.now B.Book.most) day.day.0 (switch_call code) (lapse_all day.day.0 (state_of B.Book.means ledger.now)).state) }
+    ensures told { outcome_of result ≡ first_refusal (checks (world L.Line.tariff line.now B.Book.most) day.day.0 (switch_call code) (lapse_all day.day.0 (state_of B.Book.means ledger.now)).state) }
 {
     let Some(terms) = line.terms(code) else {
         return Err(Fault::NoTerms);
@@ -189,7 +189,7 @@ fn judge_at<L: Line, B: Book>(
     day: CallDay,
     call: Call,
 ) -> Result<(), Fault>
-    ensures told { outcome_of result ≡ first_refusal (checks (world L.Line.terms L.Line.entry L.Line.lawful line.now B.Book.most) day.day.0 call (lapse_all day.day.0 (state_of B.Book.means ledger.now)).state) }
+    ensures told { outcome_of result ≡ first_refusal (checks (world L.Line.tariff line.now B.Book.most) day.day.0 call (lapse_all day.day.0 (state_of B.Book.means ledger.now)).state) }
 {
     match (ledger.status, call) {
         (_, Call::TopUp(sums)) => judge_top_up(ledger, line, day, sums),
@@ -240,7 +240,7 @@ pub(crate) fn judge<L: Line, B: Book>(
     day: CallDay,
     call: Call,
 ) -> Result<(), Fault>
-    ensures told { outcome_of result ≡ first_refusal (checks (world L.Line.terms L.Line.entry L.Line.lawful line.now B.Book.most) day.day.0 call (bring_up gregorian day.day.0 (state_of B.Book.means ledger.now)).state) }
+    ensures told { outcome_of result ≡ first_refusal (checks (world L.Line.tariff line.now B.Book.most) day.day.0 call (bring_up gregorian day.day.0 (state_of B.Book.means ledger.now)).state) }
 {
     match ledger.status {
         Status::Blocked => judge_at(ledger, line, day, call),

@@ -205,8 +205,8 @@ fn switch_to<L: Line, B: Book>(
     day: CallDay,
     code: PlanCode,
 ) -> Receipt
-    requires { first_refusal (checks (world L.Line.terms L.Line.entry L.Line.lawful line.now B.Book.most) day.day.0 (switch_call code) (state_of B.Book.means ledger.old)) ≡ none_told }
-    ensures does { out (state_of B.Book.means ledger.new) (receipt_of result) ≡ performed (world L.Line.terms L.Line.entry L.Line.lawful line.now B.Book.most) day.day.0 (switch_call code) (state_of B.Book.means ledger.old) }
+    requires { first_refusal (checks (world L.Line.tariff line.now B.Book.most) day.day.0 (switch_call code) (state_of B.Book.means ledger.old)) ≡ none_told }
+    ensures does { out (state_of B.Book.means ledger.new) (receipt_of result) ≡ performed (world L.Line.tariff line.now B.Book.most) day.day.0 (switch_call code) (state_of B.Book.means ledger.old) }
     ensures small { AllBelow (2 ^ 36) (receipt_of result) }
 {
     let Some(terms) = line.terms(code) else {
@@ -224,8 +224,8 @@ pub(crate) fn perform<L: Line, B: Book>(
     day: CallDay,
     call: Call,
 ) -> Receipt
-    requires { first_refusal (checks (world L.Line.terms L.Line.entry L.Line.lawful line.now B.Book.most) day.day.0 call (state_of B.Book.means ledger.old)) ≡ none_told }
-    ensures does { out (state_of B.Book.means ledger.new) (receipt_of result) ≡ performed (world L.Line.terms L.Line.entry L.Line.lawful line.now B.Book.most) day.day.0 call (state_of B.Book.means ledger.old) }
+    requires { first_refusal (checks (world L.Line.tariff line.now B.Book.most) day.day.0 call (state_of B.Book.means ledger.old)) ≡ none_told }
+    ensures does { out (state_of B.Book.means ledger.new) (receipt_of result) ≡ performed (world L.Line.tariff line.now B.Book.most) day.day.0 call (state_of B.Book.means ledger.old) }
     ensures small { AllBelow (2 ^ 46) (receipt_of result) }
 {
     match (ledger.status, call) {

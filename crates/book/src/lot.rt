@@ -4,7 +4,7 @@ ghost use Rattle.std.specs.Prelude.{◌≡◌, ◌-◌, min, nat_le};
 use quantities::time::Day;
 
 // An old lot: units left of an earlier month, and the day on which they end.
-#[derive(Clone, Copy, PartialEq, Eq, Debug)]
+#[derive(Clone, Copy, PartialEq, Eq, Default, Debug)]
 pub struct Lot {
     pub amount: u32,
     pub end: Day,

@@ -1,7 +1,5 @@
 // The line Doimiy: plans 1 to 6.
-ghost use Rattle.tariff.specs.Tables.{listed_terms, listed_entry};
-ghost use Rattle.plans.specs.Doimiy.{doimiy_plans, doimiy_ways};
-ghost use Rattle.plans.specs.LawfulLines.{doimiy_lawful};
+ghost use Rattle.plans.specs.LawfulLines.{doimiy};
 
 use crate::plan::{UNLIMITED, charged, free, full_plan};
 use tariff::line::Line;
@@ -14,11 +12,7 @@ const CARRIES: bool = true;
 pub struct Doimiy;
 
 impl Line for Doimiy {
-    ghost terms = { λ l. listed_terms doimiy_plans };
-
-    ghost entry = { λ l. listed_entry doimiy_ways };
-
-    ghost lawful = { λ l. doimiy_lawful };
+    ghost tariff = { λ l. doimiy };
 
     fn terms(&self, code: PlanCode) -> Option<Terms> {
         match code.0 {

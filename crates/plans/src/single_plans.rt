@@ -1,7 +1,5 @@
 // The single plans: 21, Ovoz 15, and 22, Internet 60.
-ghost use Rattle.tariff.specs.Tables.{listed_terms, listed_entry};
-ghost use Rattle.plans.specs.SinglePlans.{single_plans, single_ways};
-ghost use Rattle.plans.specs.LawfulLines.{single_lawful};
+ghost use Rattle.plans.specs.LawfulLines.{single_line};
 
 use crate::plan::{charged, free, full_plan, internet_plan};
 use tariff::line::Line;
@@ -14,11 +12,7 @@ const CARRIES: bool = false;
 pub struct SinglePlans;
 
 impl Line for SinglePlans {
-    ghost terms = { λ l. listed_terms single_plans };
-
-    ghost entry = { λ l. listed_entry single_ways };
-
-    ghost lawful = { λ l. single_lawful };
+    ghost tariff = { λ l. single_line };
 
     fn terms(&self, code: PlanCode) -> Option<Terms> {
         match code.0 {

@@ -1,7 +1,5 @@
 // The line Sof: plans 11 to 16.
-ghost use Rattle.tariff.specs.Tables.{listed_terms, listed_entry};
-ghost use Rattle.plans.specs.Sof.{sof_plans, sof_ways};
-ghost use Rattle.plans.specs.LawfulLines.{sof_lawful};
+ghost use Rattle.plans.specs.LawfulLines.{sof};
 
 use crate::plan::{UNLIMITED, charged, free, full_plan};
 use tariff::line::Line;
@@ -14,11 +12,7 @@ const CARRIES: bool = true;
 pub struct Sof;
 
 impl Line for Sof {
-    ghost terms = { λ l. listed_terms sof_plans };
-
-    ghost entry = { λ l. listed_entry sof_ways };
-
-    ghost lawful = { λ l. sof_lawful };
+    ghost tariff = { λ l. sof };
 
     fn terms(&self, code: PlanCode) -> Option<Terms> {
         match code.0 {

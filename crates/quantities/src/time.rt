@@ -5,7 +5,7 @@ ghost use Rattle.quantities.specs.Limits.{last_moment, last_call_day};
 use crate::limits::LAST_MOMENT;
 
 // A day by its number: 0 is 1 January 2000.
-#[derive(Clone, Copy, PartialEq, Eq, PartialOrd, Ord, Debug)]
+#[derive(Clone, Copy, PartialEq, Eq, PartialOrd, Ord, Default, Debug)]
 pub struct Day(pub u32);
 
 // A minute by its number: 0 is 1 January 2000, 00:00.

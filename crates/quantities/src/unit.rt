@@ -1,6 +1,7 @@
 // The three units that allowances are counted in.
 ghost use Rattle.std.specs.Prelude.{◌≡◌, ◌+◌, ◌-◌, ◌^◌, min};
 
+use std::fmt;
 use std::marker::PhantomData;
 
 // One of the three units.
@@ -12,7 +13,7 @@ pub enum UnitKind {
 }
 
 // A thing for each unit.
-#[derive(Clone, Copy, Drop)]
+#[derive(Clone, Copy, Default, Drop)]
 pub struct PerUnit<T> {
     pub minutes: T,
     pub megabytes: T,
@@ -32,12 +33,18 @@ pub struct Message;
 #[derive(Clone, Copy, PartialEq, Eq, Debug)]
 pub struct InternationalMessage;
 
-// So many of one thing.
+// So many of one thing, in numbers of the type `N`.
 #[derive(Clone, Copy, PartialEq, Eq, Debug)]
-pub struct Count<K> {
-    pub number: u32,
+pub struct Amount<N, K> {
+    pub number: N,
     pub of: PhantomData<K>,
 }
+
+// What one call can speak of.
+pub type Count<K> = Amount<u32, K>;
+
+// A sum of many counts.
+pub type Total<K> = Amount<u64, K>;
 
 pub type Minutes = Count<Minute>;
 
@@ -47,38 +54,31 @@ pub type Messages = Count<Message>;
 
 pub type InternationalMessages = Count<InternationalMessage>;
 
-impl<K> Count<K> {
-    pub const fn new(number: u32) -> Self
+impl<N, K> Amount<N, K> {
+    pub const fn new(number: N) -> Self
         ensures { result.number ≡ number }
     {
-        Count {
+        Amount {
             number,
             of: PhantomData,
         }
     }
-}
-
-// A sum of many counts of one thing.
-#[derive(Clone, Copy, PartialEq, Eq, Debug)]
-pub struct Total<K> {
-    pub number: u64,
-    pub of: PhantomData<K>,
 }
 
 impl<K> Total<K> {
-    pub const fn new(number: u64) -> Self
-        ensures { result.number ≡ number }
-    {
-        Total {
-            number,
-            of: PhantomData,
-        }
-    }
-
     // The sum of two totals, or the largest number that a total can be, whichever is less.
     pub fn plus(self, other: Total<K>) -> Self
         ensures { result.number ≡ min (self.number + other.number) (2 ^ 64 - 1) }
     {
         Total::new(self.number.saturating_add(other.number))
+    }
+}
+
+// The number alone, without the name of what is counted.
+impl<N: fmt::Display, K> fmt::Display for Amount<N, K> {
+    ghost output = { λ a. N.output a.number };
+
+    fn fmt<W: fmt::Write>(&self, f: &mut fmt::Formatter<W>) -> fmt::Result {
+        write!(f, "{}", self.number)
     }
 }

@@ -1,8 +1,8 @@
--- Two lawful lines together are lawful: the proof that the member `lawful` hands over.
+-- Two lines together are again a line: what is listed in both keeps to the limits.
 use Rattle.std.specs.Prelude.{◌≡◌, ℕ, Bool, true, false, cond, is_some, Some, None, Option, refl}
 use Rattle.std.proofs.Common.{sym, ⊎_elim}
 use Rattle.std.proofs.lemmas.Bool.{cases_cond}
-use Rattle.tariff.specs.Terms.{Terms, Entry, Lawful}
+use Rattle.tariff.specs.Terms.{Terms, Entry, Lawful, Tariff}
 use Rattle.tariff.specs.Together.{joined_terms, joined_entry}
 
 both_none : {A : Type 0} (b : Bool) (x y : Option A) → x ≡ None → y ≡ None → cond b x y ≡ None
@@ -23,4 +23,12 @@ joined_lawful f g e h p q = record {
   none_at_zero = both_none (is_some (f 0)) (f 0) (g 0) p.none_at_zero q.none_at_zero;
   apart = λ a. both_none (is_some (f a)) (e a a) (h a a) (p.apart a) (q.apart a);
   leads = λ a b. leads_on (f b) (g b) (e a b) (h a b) (p.leads a b) (q.leads a b);
+}
+
+-- the first line that has terms for the code answers; entry goes to the line that answers for the target
+abbrev pub joined : Tariff → Tariff → Tariff
+joined x y = record {
+  terms = joined_terms x.terms y.terms;
+  entry = joined_entry x.terms x.entry y.entry;
+  lawful = joined_lawful x.terms y.terms x.entry y.entry x.lawful y.lawful;
 }

@@ -77,6 +77,13 @@ pub record Lawful (terms : ℕ → Option Terms) (entry : ℕ → ℕ → Option
   pub apart : (a : ℕ) → entry a a ≡ None
   pub leads : (a b : ℕ) → is_some (entry a b) ≡ true → is_some (terms b) ≡ true
 
+-- What a tariff line is: for a code the terms of its plan, where the line has one; for two codes what it takes to come
+-- from the plan of one to that of the other, where a way leads there; and that both keep to the limits.
+pub record Tariff : Type 0 where
+  pub terms : ℕ → Option Terms
+  pub entry : ℕ → ℕ → Option Entry
+  pub lawful : Lawful terms entry
+
 -- ## What values of the code mean
 
 abbrev pub unit_terms_of : {K : Type 0} → CodedUnit K → UnitTerms

@@ -1,6 +1,5 @@
 // Two lines together: the first that has terms for a code answers, and entry goes to the line that answers for the target.
-ghost use Rattle.tariff.specs.Together.{joined_terms, joined_entry};
-ghost use Rattle.tariff.specs.LawfulTogether.{joined_lawful};
+ghost use Rattle.tariff.specs.LawfulTogether.{joined};
 
 use crate::line::Line;
 use crate::terms::{Entry, PlanCode, Terms};
@@ -12,11 +11,7 @@ pub struct Both<X, Y> {
 }
 
 impl<X: Line, Y: Line> Line for Both<X, Y> {
-    ghost terms = { λ l. joined_terms (X.Line.terms l.first) (Y.Line.terms l.second) };
-
-    ghost entry = { λ l. joined_entry (X.Line.terms l.first) (X.Line.entry l.first) (Y.Line.entry l.second) };
-
-    ghost lawful = { λ l. joined_lawful (X.Line.terms l.first) (Y.Line.terms l.second) (X.Line.entry l.first) (Y.Line.entry l.second) (X.Line.lawful l.first) (Y.Line.lawful l.second) };
+    ghost tariff = { λ l. joined (X.Line.tariff l.first) (Y.Line.tariff l.second) };
 
     fn terms(&self, code: PlanCode) -> Option<Terms> {
         match self.first.terms(code) {

@@ -16,7 +16,7 @@ use Rattle.account.proofs.judge.judge.Goals as goal
 pub returns-then-due-day : goal.returns-then-due-day
 returns-then-due-day g c =
     let s = state_of g.B.Book.means c.args.ledger.now in
-    let w = world g.L.Line.terms g.L.Line.entry g.L.Line.lawful c.args.line.now g.B.Book.most in
+    let w = world g.L.Line.tariff c.args.line.now g.B.Book.most in
     let D = c.args.day.day.0 in
     let due = c.in-Active.due in
     let rests : (d : Day) → s.status ≡ active d → D < d.0 = λ d e.
@@ -38,7 +38,7 @@ returns-else-due-day g c =
       | Messages ↦ (kept ledger.books.messages).fresh
     ] in
     let most = g.B.Book.most in
-    let w = world g.L.Line.terms g.L.Line.entry g.L.Line.lawful c.args.line.now most in
+    let w = world g.L.Line.tariff c.args.line.now most in
     let D = c.args.day.day.0 in
     let u = state_of meaning c.settle.new.ledger in
     let to : u ≡ (settle gregorian (suc D) D (stripped s)).state =

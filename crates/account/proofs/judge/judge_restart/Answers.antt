@@ -37,7 +37,7 @@ returns-then-ledger g c =
 pub returns : goal.returns
 returns g c =
     let s = (lapse_all c.args.day.day.0 (state_of g.B.Book.means c.args.ledger.now)).state in
-    let w = world g.L.Line.terms g.L.Line.entry g.L.Line.lawful c.args.line.now g.B.Book.most in
+    let w = world g.L.Line.tariff c.args.line.now g.B.Book.most in
     let awake = still_active s c.in-Active.due c.in-Active.is in
     let taken = sym c.fee_taken_on.ensures ∙ c.if-fee_taken_on.false in
     let rich = le-ltb s.balance (awaited_fee s) (omega arith) in

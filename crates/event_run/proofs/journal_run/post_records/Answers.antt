@@ -14,7 +14,7 @@ use Rattle.event_run.proofs.journal_run.post_records.Goals as goal
 pub loop-part-preserved : goal.loop-part-preserved
 loop-part-preserved g c =
     let means = g.B.Book.means in
-    let on = world g.L.Line.terms g.L.Line.entry g.L.Line.lawful in
+    let on = world g.L.Line.tariff in
     let w = on c.args.account.now.line g.B.Book.most in
     let a = account_of means c.loop-part.account in
     let b = account_of means c.post-posted.new.account in
@@ -37,7 +37,7 @@ loop-part-preserved g c =
 pub returns : goal.returns
 returns g c =
     let means = g.B.Book.means in
-    let w = world g.L.Line.terms g.L.Line.entry g.L.Line.lawful c.args.account.now.line g.B.Book.most in
+    let w = world g.L.Line.tariff c.args.account.now.line g.B.Book.most in
     let a = account_of means c.loop-part.account in
     let journal = c.loop-part.journal in
     let last = c.next_part.new.self in

@@ -12,7 +12,7 @@ use Rattle.event_run.proofs.run.post_all.Goals as goal
 pub loop-part-preserved : goal.loop-part-preserved
 loop-part-preserved g c =
     let means = g.B.Book.means in
-    let on = world g.L.Line.terms g.L.Line.entry g.L.Line.lawful in
+    let on = world g.L.Line.tariff in
     let w = on c.args.account.now.line g.B.Book.most in
     let a = account_of means c.loop-part.account in
     let b = account_of means c.post-posted.new.account in

@@ -9,7 +9,7 @@ use Rattle.account.proofs.account.Account.act.Goals as goal
 pub returns : goal.returns
 returns g c =
     let a = c.args.self.now in
-    let w = world g.L.Line.terms g.L.Line.entry g.L.Line.lawful a.line g.B.Book.most in
+    let w = world g.L.Line.tariff a.line g.B.Book.most in
     let told = c.make.ensures in
     record {
       does = told.does;

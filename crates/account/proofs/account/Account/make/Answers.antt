@@ -16,7 +16,7 @@ returns-in_err-judge g c =
     let p = err_from_is_err_and c.from_residual.result c.from_residual.ensures.1 in
     let a = c.args.self.now in
     let e = c.args.event in
-    let w = world g.L.Line.terms g.L.Line.entry g.L.Line.lawful a.line g.B.Book.most in
+    let w = world g.L.Line.tariff a.line g.B.Book.most in
     let s = account_of g.B.Book.means a in
     let (soon, on) = c.in-Some.ensures in
     let told = in_time w s e c.in-Some.day.day.0 on soon c.if-event-self.false ∙ sym c.in_err-judge.ensures.told in
@@ -30,7 +30,7 @@ returns-in_err-judge g c =
 pub perform-done-requires : goal.perform-done-requires
 perform-done-requires g c =
     let brought = ap (λ (o : Out). o.state) c.bring_up-brought.ensures.does in
-    let w = world g.L.Line.terms g.L.Line.entry g.L.Line.lawful c.args.self.now.line g.B.Book.most in
+    let w = world g.L.Line.tariff c.args.self.now.line g.B.Book.most in
     ap (λ x. first_refusal (checks w c.in-Some.day.day.0 c.args.event.call x)) brought ∙ sym c.in_ok-judge.ensures.told
 
 pub returns : goal.returns
@@ -38,7 +38,7 @@ returns g c =
     let means = g.B.Book.means in
     let a = c.args.self.now in
     let e = c.args.event in
-    let w = world g.L.Line.terms g.L.Line.entry g.L.Line.lawful a.line g.B.Book.most in
+    let w = world g.L.Line.tariff a.line g.B.Book.most in
     let s = account_of means a in
     let (soon, on) = c.in-Some.ensures in
     let D = c.in-Some.day.day.0 in
