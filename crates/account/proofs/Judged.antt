@@ -1,5 +1,5 @@
 -- What the checks of a use and of a Restart ask, of an account after a lapse.
-use Rattle.std.proofs.Common.{◌≡◌, ℕ, ◌<◌, ◌≤◌, ◌⊎◌, Bool, true, false, Some, None, Option, refl, ap, arith}
+use Rattle.std.proofs.Common.{◌≡◌, ℕ, ◌<◌, ◌≤◌, nat_le, nat_lt, ◌⊎◌, Bool, true, false, Some, None, Option, refl, ap, arith}
 use Rattle.std.proofs.lemmas.Bool.Decides.{nat_tests}
 use Rattle.quantities.specs.declared.time.Day.{Day}
 use Rattle.quantities.specs.declared.unit.UnitKind.{UnitKind}
@@ -16,6 +16,19 @@ outside_bounds a b n h = grind (arith, nat_tests)
 
 pub inside_bounds : (a b n : ℕ) → a ≤ n → n ≤ b → outside a b n ≡ false
 inside_bounds a b n h k = grind (arith, nat_tests)
+
+-- a charge x that the balance b covers, or doesn't
+pub poor : (b c x : ℕ) → x ≡ c → nat_le x b ≡ false → nat_lt b c ≡ true
+poor b c x e h = grind (arith, nat_tests)
+
+pub rich : (b c x : ℕ) → x ≡ c → nat_le x b ≡ true → nat_lt b c ≡ false
+rich b c x e h = grind (arith, nat_tests)
+
+pub reached : (x b : ℕ) → nat_le x b ≡ true → x ≤ b
+reached x b h = grind (arith, nat_tests)
+
+pub unreached : (x b : ℕ) → nat_le x b ≡ false → b < x
+unreached x b h = grind (arith, nat_tests)
 
 pub still_blocked : (s : State) → s.status ≡ blocked → is_blocked s ≡ true
 still_blocked s e = ap (λ x. elim x [ blocked ↦ true | active d ↦ false ]) e

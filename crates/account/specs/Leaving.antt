@@ -9,21 +9,13 @@ use Rattle.tariff.specs.Terms.{Entry, restart_wipes_unit}
 use Rattle.book.specs.declared.fault.BookFault.{BookFault}
 use Rattle.book.specs.Allowance.{Allowance, aside_answer}
 use Rattle.rules.specs.declared.call.Status.TheVariants.{Blocked as blocked, Active as active}
-use Rattle.rules.specs.Receipt.{Tally, wiping_by_restart, wiping_by_switch}
 use Rattle.rules.specs.State.{State}
 use Rattle.rules.specs.Calls.{switch_wipes_unit}
 use Rattle.rules.specs.Checks.{Concern, first_concern}
-use Rattle.account.specs.declared.wiping.Cause.{Cause}
-use Rattle.account.specs.declared.wiping.Cause.TheVariants.{Restart, Switch}
 
 -- the answer of each unit
 abbrev pub by_unit : {A : Type 0} → (UnitKind → A) → PerUnit A
 by_unit f = record { minutes = f Minutes; megabytes = f Megabytes; messages = f Messages }
-
--- what was wiped, in the column of its cause
-abbrev pub wiping : Cause → ℕ → Tally
-wiping Restart n = wiping_by_restart n
-wiping Switch n = wiping_by_switch n
 
 -- why a book refuses, if it does
 abbrev pub fault_in : Result Unit BookFault → Option BookFault

@@ -17,14 +17,8 @@ abbrev pub account_of : {L B : Type 0} → (B → Allowance) → Account L B →
 account_of means a = record { latest = a.latest.0; state = state_of means a.ledger }
 
 -- the Gregorian calendar, a line's tables and a capacity
-abbrev pub world : {L : Type 0} → (L → Tariff) → L → ℕ → World
-world tariff l most = record {
-  calendar = gregorian;
-  terms = (tariff l).terms;
-  entry = (tariff l).entry;
-  capacity = most;
-  lawful = (tariff l).lawful;
-}
+abbrev pub world : Tariff → ℕ → World
+world line most = record { calendar = gregorian; terms = line.terms; entry = line.entry; capacity = most; lawful = line.lawful }
 
 -- how a call came out, the account after it and its receipt
 abbrev pub answer : Option Refusal → Meant → Receipt → Answer

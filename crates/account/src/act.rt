@@ -11,7 +11,6 @@ use crate::judge::judge;
 use crate::perform::perform;
 use book::meaning::Book;
 use fault::account::Fault;
-use ledger::bring_up::bring_up;
 use receipt::receipt::Receipt;
 use rules::call::Event;
 use tariff::line::Line;
@@ -19,7 +18,7 @@ use tariff::line::Line;
 impl<L: Line, B: Book> Account<L, B> {
     // Judges the call by reading; only an accepted one changes the account and fills the receipt.
     fn make(&mut self, event: Event, receipt: &mut Receipt) -> Result<(), Fault>
-        ensures does { answer (outcome_of result) (account_of B.Book.means self.new) (receipt_of receipt.new) ≡ step (world L.Line.tariff self.old.line B.Book.most) (account_of B.Book.means self.old) event }
+        ensures does { answer (outcome_of result) (account_of B.Book.means self.new) (receipt_of receipt.new) ≡ step (world (L.Line.tariff self.old.line) B.Book.CAPACITY) (account_of B.Book.means self.old) event }
         ensures line { self.new.line ≡ self.old.line }
         ensures same { is_ok result ≡ false → self.new ≡ self.old }
     {
@@ -27,11 +26,11 @@ impl<L: Line, B: Book> Account<L, B> {
         let Some(day) = event.moment.call_day() else {
             return Err(Fault::PastLastMoment);
         };
-        if event.moment.0 < self.latest.0 {
+        if event.moment < self.latest {
             return Err(Fault::BeforeLatestMoment);
         }
         judge(&self.ledger, &self.line, day, event.call)?;
-        let brought = bring_up(&mut self.ledger, day);
+        let brought = self.ledger.bring_up(day);
         let done = perform(&mut self.ledger, &self.line, day, event.call);
         self.latest = event.moment;
         *receipt = brought.plus(done);
@@ -40,7 +39,7 @@ impl<L: Line, B: Book> Account<L, B> {
 
     // Any call, by its event. The receipt is set whole, whatever it held, each column within its bound.
     pub fn act(&mut self, event: Event, receipt: &mut Receipt) -> Result<(), Fault>
-        ensures does { answer (outcome_of result) (account_of B.Book.means self.new) (receipt_of receipt.new) ≡ step (world L.Line.tariff self.old.line B.Book.most) (account_of B.Book.means self.old) event }
+        ensures does { answer (outcome_of result) (account_of B.Book.means self.new) (receipt_of receipt.new) ≡ step (world (L.Line.tariff self.old.line) B.Book.CAPACITY) (account_of B.Book.means self.old) event }
         ensures line { self.new.line ≡ self.old.line }
         ensures same { is_ok result ≡ false → self.new ≡ self.old }
         ensures columns { ColumnsWithin most_column (receipt_of receipt.new) }

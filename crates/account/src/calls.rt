@@ -20,7 +20,7 @@ use tariff::terms::PlanCode;
 impl<L: Line, B: Book> Account<L, B> {
     // Adds to the balance; a blocked account whose balance then reaches the fee starts on that day.
     pub fn top_up(&mut self, moment: Moment, sums: Sums, receipt: &mut Receipt) -> Result<(), Fault>
-        ensures does { answer (outcome_of result) (account_of B.Book.means self.new) (receipt_of receipt.new) ≡ step (world L.Line.tariff self.old.line B.Book.most) (account_of B.Book.means self.old) (record { moment = moment; call = top_up_call sums }) }
+        ensures does { answer (outcome_of result) (account_of B.Book.means self.new) (receipt_of receipt.new) ≡ step (world (L.Line.tariff self.old.line) B.Book.CAPACITY) (account_of B.Book.means self.old) (record { moment = moment; call = top_up_call sums }) }
         ensures line { self.new.line ≡ self.old.line }
         ensures same { is_ok result ≡ false → self.new ≡ self.old }
         ensures columns { ColumnsWithin most_column (receipt_of receipt.new) }
@@ -37,7 +37,7 @@ impl<L: Line, B: Book> Account<L, B> {
         n: u32,
         receipt: &mut Receipt,
     ) -> Result<(), Fault>
-        ensures does { answer (outcome_of result) (account_of B.Book.means self.new) (receipt_of receipt.new) ≡ step (world L.Line.tariff self.old.line B.Book.most) (account_of B.Book.means self.old) (record { moment = moment; call = use_call service n }) }
+        ensures does { answer (outcome_of result) (account_of B.Book.means self.new) (receipt_of receipt.new) ≡ step (world (L.Line.tariff self.old.line) B.Book.CAPACITY) (account_of B.Book.means self.old) (record { moment = moment; call = use_call service n }) }
         ensures line { self.new.line ≡ self.old.line }
         ensures same { is_ok result ≡ false → self.new ≡ self.old }
         ensures columns { ColumnsWithin most_column (receipt_of receipt.new) }
@@ -48,7 +48,7 @@ impl<L: Line, B: Book> Account<L, B> {
 
     // Ends the month early: the fee is taken on the day, which becomes the anchor.
     pub fn restart(&mut self, moment: Moment, receipt: &mut Receipt) -> Result<(), Fault>
-        ensures does { answer (outcome_of result) (account_of B.Book.means self.new) (receipt_of receipt.new) ≡ step (world L.Line.tariff self.old.line B.Book.most) (account_of B.Book.means self.old) (record { moment = moment; call = restart_call }) }
+        ensures does { answer (outcome_of result) (account_of B.Book.means self.new) (receipt_of receipt.new) ≡ step (world (L.Line.tariff self.old.line) B.Book.CAPACITY) (account_of B.Book.means self.old) (record { moment = moment; call = restart_call }) }
         ensures line { self.new.line ≡ self.old.line }
         ensures same { is_ok result ≡ false → self.new ≡ self.old }
         ensures columns { ColumnsWithin most_column (receipt_of receipt.new) }
@@ -64,7 +64,7 @@ impl<L: Line, B: Book> Account<L, B> {
         plan: PlanCode,
         receipt: &mut Receipt,
     ) -> Result<(), Fault>
-        ensures does { answer (outcome_of result) (account_of B.Book.means self.new) (receipt_of receipt.new) ≡ step (world L.Line.tariff self.old.line B.Book.most) (account_of B.Book.means self.old) (record { moment = moment; call = switch_call plan }) }
+        ensures does { answer (outcome_of result) (account_of B.Book.means self.new) (receipt_of receipt.new) ≡ step (world (L.Line.tariff self.old.line) B.Book.CAPACITY) (account_of B.Book.means self.old) (record { moment = moment; call = switch_call plan }) }
         ensures line { self.new.line ≡ self.old.line }
         ensures same { is_ok result ≡ false → self.new ≡ self.old }
         ensures columns { ColumnsWithin most_column (receipt_of receipt.new) }
@@ -75,7 +75,7 @@ impl<L: Line, B: Book> Account<L, B> {
 
     // Lets megabytes run past the allowance until the next fee.
     pub fn turn_on_option(&mut self, moment: Moment, receipt: &mut Receipt) -> Result<(), Fault>
-        ensures does { answer (outcome_of result) (account_of B.Book.means self.new) (receipt_of receipt.new) ≡ step (world L.Line.tariff self.old.line B.Book.most) (account_of B.Book.means self.old) (record { moment = moment; call = option_call }) }
+        ensures does { answer (outcome_of result) (account_of B.Book.means self.new) (receipt_of receipt.new) ≡ step (world (L.Line.tariff self.old.line) B.Book.CAPACITY) (account_of B.Book.means self.old) (record { moment = moment; call = option_call }) }
         ensures line { self.new.line ≡ self.old.line }
         ensures same { is_ok result ≡ false → self.new ≡ self.old }
         ensures columns { ColumnsWithin most_column (receipt_of receipt.new) }
@@ -86,7 +86,7 @@ impl<L: Line, B: Book> Account<L, B> {
 
     // A day mark: only brings the account up to its day.
     pub fn mark_day(&mut self, moment: Moment, receipt: &mut Receipt) -> Result<(), Fault>
-        ensures does { answer (outcome_of result) (account_of B.Book.means self.new) (receipt_of receipt.new) ≡ step (world L.Line.tariff self.old.line B.Book.most) (account_of B.Book.means self.old) (record { moment = moment; call = day_mark_call }) }
+        ensures does { answer (outcome_of result) (account_of B.Book.means self.new) (receipt_of receipt.new) ≡ step (world (L.Line.tariff self.old.line) B.Book.CAPACITY) (account_of B.Book.means self.old) (record { moment = moment; call = day_mark_call }) }
         ensures line { self.new.line ≡ self.old.line }
         ensures same { is_ok result ≡ false → self.new ≡ self.old }
         ensures columns { ColumnsWithin most_column (receipt_of receipt.new) }

@@ -1,5 +1,5 @@
 // Whether a call is refused, and why. Judging reads only.
-ghost use Rattle.std.specs.Prelude.{◌≡◌, ◌+◌, ◌-◌, ◌≤◌, []};
+ghost use Rattle.std.specs.Prelude.{◌≡◌, ◌+◌, ◌-◌, ◌*◌, ◌≤◌, []};
 ghost use Rattle.quantities.specs.Limits.{most_grant};
 ghost use Rattle.book.specs.Allowance.{left, lapsed};
 ghost use Rattle.rules.specs.DueDays.{lapse_all, bring_up};
@@ -17,10 +17,10 @@ use crate::keeping::judge_books;
 use crate::wiping::{wiped_by_restart, wiped_by_switch};
 use book::meaning::Book;
 use fault::account::Fault;
-use ledger::bring_up::settle;
 use ledger::ledger::Ledger;
 use quantities::limits::{MOST_BALANCE, MOST_TOP_UP, MOST_USE};
 use quantities::money::Sums;
+use quantities::price::Price;
 use quantities::time::{CallDay, Day};
 use quantities::unit::{Count, PerUnit, UnitKind};
 use rules::call::{Call, Service, Status};
@@ -32,15 +32,15 @@ use tariff::terms::PlanCode;
 fn left_after<B: Book>(book: &B, day: Day) -> u64
     ensures answer { result ≡ left (lapsed day.0 (B.Book.means book.now)) }
 {
-    book.fresh_after(day) as u64 + book.old_after(day) as u64
+    u64::from(book.fresh_after(day)) + u64::from(book.old_after(day))
 }
 
-// How much of a use goes beyond what is left after a lapse on the day.
-fn beyond<K, B: Book>(book: &B, day: Day, n: u32) -> Count<K>
-    ensures { result.number ≡ n - left (lapsed day.0 (B.Book.means book.now)) }
+// What a use costs that goes beyond what is left after a lapse on the day.
+fn cost_beyond<K, B: Book>(book: &B, price: Price<K>, day: Day, n: u32) -> Sums
+    ensures { result.0 ≡ (n - left (lapsed day.0 (B.Book.means book.now))) * price.sums }
 {
-    let over = (n as u64).saturating_sub(left_after(book, day));
-    Count::new(over as u32)
+    let over = u64::from(n).saturating_sub(left_after(book, day));
+    price.cost(Count::new(over as u32))
 }
 
 fn offers<B: Book>(ledger: &Ledger<B>, service: Option<Service>) -> bool
@@ -63,18 +63,11 @@ fn charge<B: Book>(ledger: &Ledger<B>, day: Day, service: Option<Service>, n: u3
     let books = &ledger.books;
     match service {
         None => Sums(0),
-        Some(Service::Counted(UnitKind::Minutes)) => terms
-            .minutes
-            .beyond
-            .cost(beyond(&books.minutes, day, n)),
-        Some(Service::Counted(UnitKind::Megabytes)) => terms
-            .megabytes
-            .beyond
-            .cost(beyond(&books.megabytes, day, n)),
-        Some(Service::Counted(UnitKind::Messages)) => terms
-            .messages
-            .beyond
-            .cost(beyond(&books.messages, day, n)),
+        Some(Service::Counted(unit)) => match unit {
+            UnitKind::Minutes => cost_beyond(&books.minutes, terms.minutes.beyond, day, n),
+            UnitKind::Megabytes => cost_beyond(&books.megabytes, terms.megabytes.beyond, day, n),
+            UnitKind::Messages => cost_beyond(&books.messages, terms.messages.beyond, day, n),
+        },
         Some(Service::International) => terms.international.price.cost(Count::new(n)),
     }
 }
@@ -85,7 +78,7 @@ fn runs_past<B: Book>(ledger: &Ledger<B>, day: Day, service: Option<Service>, n:
 {
     match service {
         Some(Service::Counted(UnitKind::Megabytes)) => {
-            !ledger.option && left_after(&ledger.books.megabytes, day) < n as u64
+            !ledger.option && left_after(&ledger.books.megabytes, day) < u64::from(n)
         }
         _ => false,
     }
@@ -97,7 +90,7 @@ fn judge_top_up<L: Line, B: Book>(
     day: CallDay,
     sums: Sums,
 ) -> Result<(), Fault>
-    ensures told { outcome_of result ≡ first_refusal (checks (world L.Line.tariff line.now B.Book.most) day.day.0 (top_up_call sums) (lapse_all day.day.0 (state_of B.Book.means ledger.now)).state) }
+    ensures told { outcome_of result ≡ first_refusal (checks (world (L.Line.tariff line.now) B.Book.CAPACITY) day.day.0 (top_up_call sums) (lapse_all day.day.0 (state_of B.Book.means ledger.now)).state) }
 {
     if sums.0 < 1 || sums.0 > MOST_TOP_UP {
         return Err(Fault::AmountOutOfRange);
@@ -115,7 +108,7 @@ fn judge_use<L: Line, B: Book>(
     service: Option<Service>,
     n: u32,
 ) -> Result<(), Fault>
-    ensures told { outcome_of result ≡ first_refusal (checks (world L.Line.tariff line.now B.Book.most) day.day.0 (use_call service n) (lapse_all day.day.0 (state_of B.Book.means ledger.now)).state) }
+    ensures told { outcome_of result ≡ first_refusal (checks (world (L.Line.tariff line.now) B.Book.CAPACITY) day.day.0 (use_call service n) (lapse_all day.day.0 (state_of B.Book.means ledger.now)).state) }
 {
     if n < 1 || n > MOST_USE {
         return Err(Fault::AmountOutOfRange);
@@ -129,7 +122,7 @@ fn judge_use<L: Line, B: Book>(
     if runs_past(ledger, day.day, service, n) {
         return Err(Fault::MegabytesPastAllowance);
     }
-    if ledger.balance.sums.0 < charge(ledger, day.day, service, n).0 {
+    if !ledger.balance.covers(charge(ledger, day.day, service, n)) {
         return Err(Fault::BalanceTooLow);
     }
     Ok(())
@@ -138,14 +131,11 @@ fn judge_use<L: Line, B: Book>(
 fn fee_taken_on<B: Book>(ledger: &Ledger<B>, day: Day) -> bool
     ensures { result ≡ is_on ledger.now.last_fee day.0 }
 {
-    match ledger.last_fee {
-        None => false,
-        Some(last) => last.0 == day.0,
-    }
+    ledger.last_fee == Some(day)
 }
 
 fn judge_restart<L: Line, B: Book>(ledger: &Ledger<B>, line: &L, day: CallDay) -> Result<(), Fault>
-    ensures told { outcome_of result ≡ first_refusal (checks (world L.Line.tariff line.now B.Book.most) day.day.0 restart_call (lapse_all day.day.0 (state_of B.Book.means ledger.now)).state) }
+    ensures told { outcome_of result ≡ first_refusal (checks (world (L.Line.tariff line.now) B.Book.CAPACITY) day.day.0 restart_call (lapse_all day.day.0 (state_of B.Book.means ledger.now)).state) }
 {
     let Status::Active(due) = ledger.status else {
         return Err(Fault::Blocked);
@@ -153,7 +143,7 @@ fn judge_restart<L: Line, B: Book>(ledger: &Ledger<B>, line: &L, day: CallDay) -
     if fee_taken_on(ledger, day.day) {
         return Err(Fault::FeeTakenThatDay);
     }
-    if ledger.balance.sums.0 < ledger.terms.fee.sums.0 {
+    if !ledger.balance.covers(ledger.terms.fee.sums) {
         return Err(Fault::BalanceTooLow);
     }
     judge_books(ledger, day, due, wiped_by_restart(ledger.terms))
@@ -165,7 +155,7 @@ fn judge_switch<L: Line, B: Book>(
     day: CallDay,
     code: PlanCode,
 ) -> Result<(), Fault>
-    ensures told { outcome_of result ≡ first_refusal (checks (world L.Line.tariff line.now B.Book.most) day.day.0 (switch_call code) (lapse_all day.day.0 (state_of B.Book.means ledger.now)).state) }
+    ensures told { outcome_of result ≡ first_refusal (checks (world (L.Line.tariff line.now) B.Book.CAPACITY) day.day.0 (switch_call code) (lapse_all day.day.0 (state_of B.Book.means ledger.now)).state) }
 {
     let Some(terms) = line.terms(code) else {
         return Err(Fault::NoTerms);
@@ -173,7 +163,7 @@ fn judge_switch<L: Line, B: Book>(
     let Some(entry) = line.entry(ledger.plan, code) else {
         return Err(Fault::NoEntry);
     };
-    if ledger.balance.sums.0 < entry.price.0 + terms.fee.sums.0 {
+    if !ledger.balance.covers(entry.price.plus(terms.fee.sums)) {
         return Err(Fault::BalanceTooLow);
     }
     match ledger.status {
@@ -189,7 +179,7 @@ fn judge_at<L: Line, B: Book>(
     day: CallDay,
     call: Call,
 ) -> Result<(), Fault>
-    ensures told { outcome_of result ≡ first_refusal (checks (world L.Line.tariff line.now B.Book.most) day.day.0 call (lapse_all day.day.0 (state_of B.Book.means ledger.now)).state) }
+    ensures told { outcome_of result ≡ first_refusal (checks (world (L.Line.tariff line.now) B.Book.CAPACITY) day.day.0 call (lapse_all day.day.0 (state_of B.Book.means ledger.now)).state) }
 {
     match (ledger.status, call) {
         (_, Call::TopUp(sums)) => judge_top_up(ledger, line, day, sums),
@@ -240,16 +230,16 @@ pub(crate) fn judge<L: Line, B: Book>(
     day: CallDay,
     call: Call,
 ) -> Result<(), Fault>
-    ensures told { outcome_of result ≡ first_refusal (checks (world L.Line.tariff line.now B.Book.most) day.day.0 call (bring_up gregorian day.day.0 (state_of B.Book.means ledger.now)).state) }
+    ensures told { outcome_of result ≡ first_refusal (checks (world (L.Line.tariff line.now) B.Book.CAPACITY) day.day.0 call (bring_up gregorian day.day.0 (state_of B.Book.means ledger.now)).state) }
 {
     match ledger.status {
         Status::Blocked => judge_at(ledger, line, day, call),
         Status::Active(due) => {
-            if due.0 > day.day.0 {
+            if due > day.day {
                 return judge_at(ledger, line, day, call);
             }
             let mut next = ahead(ledger, day.day);
-            let _ = settle(&mut next, day);
+            let _ = next.settle(day);
             judge_at(&next, line, day, call)
         }
     }

@@ -1,5 +1,5 @@
 // Whether the books that a Restart or a switch keeps can be set aside. It reads only.
-ghost use Rattle.std.specs.Prelude.{◌≡◌, [], ◌∷◌, if◌then◌else◌, Ok, Err};
+ghost use Rattle.std.specs.Prelude.{◌≡◌, [], ◌∷◌, if◌then◌else◌, Ok};
 ghost use Rattle.book.specs.Allowance.{lapsed, aside_answer};
 ghost use Rattle.rules.specs.DueDays.{lapse_all};
 ghost use Rattle.rules.specs.Calls.{new_due};
@@ -17,19 +17,9 @@ use ledger::ledger::Ledger;
 use quantities::time::{CallDay, Day};
 use quantities::unit::{PerUnit, UnitKind};
 
-// Tells the unit of a book's refusal.
-fn in_unit(res: Result<(), BookFault>, unit: UnitKind) -> Result<(), UnitFault>
-    ensures { result ≡ elim res [ Ok x ↦ Ok x | Err f ↦ Err (record { unit = unit; fault = f }) ] }
-{
-    match res {
-        Ok(()) => Ok(()),
-        Err(fault) => Err(UnitFault { unit, fault }),
-    }
-}
-
 // What a book would answer to being wiped or set aside after a lapse on the day.
 fn judge_book<B: Book>(book: &B, wiped: bool, day: Day, end: Day, cap: Day) -> Result<(), BookFault>
-    ensures { result ≡ (if wiped then Ok tt else aside_answer B.Book.most end.0 cap.0 (lapsed day.0 (B.Book.means book.now))) }
+    ensures { result ≡ (if wiped then Ok tt else aside_answer B.Book.CAPACITY end.0 cap.0 (lapsed day.0 (B.Book.means book.now))) }
 {
     if wiped {
         return Ok(());
@@ -44,21 +34,15 @@ pub(crate) fn judge_books<B: Book>(
     end: Day,
     wiped: PerUnit<bool>,
 ) -> Result<(), Fault>
-    ensures told { outcome_of result ≡ first_refusal (check_books (keep_concern B.Book.most end.0 (new_due gregorian day.day.0) wiped (lapse_all day.day.0 (state_of B.Book.means ledger.now)).state.books) ∷ []) }
+    ensures told { outcome_of result ≡ first_refusal (check_books (keep_concern B.Book.CAPACITY end.0 (new_due gregorian day.day.0) wiped (lapse_all day.day.0 (state_of B.Book.means ledger.now)).state.books) ∷ []) }
 {
     let books = &ledger.books;
     let cap = new_due(day);
-    in_unit(
-        judge_book(&books.minutes, wiped.minutes, day.day, end, cap),
-        UnitKind::Minutes,
-    )?;
-    in_unit(
-        judge_book(&books.megabytes, wiped.megabytes, day.day, end, cap),
-        UnitKind::Megabytes,
-    )?;
-    in_unit(
-        judge_book(&books.messages, wiped.messages, day.day, end, cap),
-        UnitKind::Messages,
-    )?;
+    let judge = |unit: UnitKind, book: &B, wiped: bool| {
+        judge_book(book, wiped, day.day, end, cap).map_err(|fault| UnitFault { unit, fault })
+    };
+    judge(UnitKind::Minutes, &books.minutes, wiped.minutes)?;
+    judge(UnitKind::Megabytes, &books.megabytes, wiped.megabytes)?;
+    judge(UnitKind::Messages, &books.messages, wiped.messages)?;
     Ok(())
 }

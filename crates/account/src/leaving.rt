@@ -6,35 +6,27 @@ ghost use Rattle.rules.specs.Receipt.{none};
 ghost use Rattle.rules.specs.Calls.{wipe_or_keep};
 ghost use Rattle.receipt.specs.Columns.{tally_of, receipt_of, Below, AllBelow};
 ghost use Rattle.ledger.specs.Meaning.{state_of, out};
-ghost use Rattle.account.specs.Leaving.{wiping, keep_refusal, keep_concern};
+ghost use Rattle.receipt.specs.Wiping.{wiping};
+ghost use Rattle.account.specs.Leaving.{keep_refusal, keep_concern};
 
-use crate::wiping::Cause;
 use book::meaning::Book;
 use ledger::ledger::Ledger;
 use quantities::time::Day;
 use quantities::unit::PerUnit;
+use receipt::cause::Cause;
 use receipt::receipt::Receipt;
 use receipt::tally::Tally;
 
-fn wiped_by<K>(cause: Cause, count: u64) -> Tally<K>
-    ensures { tally_of result ≡ wiping cause count }
-{
-    match cause {
-        Cause::Restart => Tally::wiped_by_restart(count),
-        Cause::Switch => Tally::wiped_by_switch(count),
-    }
-}
-
 // Wipes a book, or sets it aside where judging found that it can be.
 fn wipe_or_keep<K, B: Book>(book: &mut B, cause: Cause, wiped: bool, end: Day, cap: Day) -> Tally<K>
-    requires { keep_refusal B.Book.most end.0 cap.0 wiped (B.Book.means book.old) ≡ none_told }
+    requires { keep_refusal B.Book.CAPACITY end.0 cap.0 wiped (B.Book.means book.old) ≡ none_told }
     ensures book { B.Book.means book.new ≡ (if wiped then empty else aside end.0 cap.0 (B.Book.means book.old)) }
     ensures tally { tally_of result ≡ (if wiped then wiping cause (left (B.Book.means book.old)) else none) }
     ensures small { Below (2 ^ 34) (tally_of result) }
 {
     if wiped {
         let cleared = book.clear();
-        wiped_by(cause, cleared.fresh as u64 + cleared.old as u64)
+        Tally::wiped(cause, u64::from(cleared.fresh) + u64::from(cleared.old))
     } else {
         let _ = book.set_aside(end, cap);
         Tally::none()
@@ -48,7 +40,7 @@ pub(crate) fn leave_books<B: Book>(
     end: Day,
     cap: Day,
 ) -> Receipt
-    requires { keep_concern B.Book.most end.0 cap.0 wiped (state_of B.Book.means ledger.old).books ≡ none_told }
+    requires { keep_concern B.Book.CAPACITY end.0 cap.0 wiped (state_of B.Book.means ledger.old).books ≡ none_told }
     ensures does { out (state_of B.Book.means ledger.new) (receipt_of result) ≡ wipe_or_keep (wiping cause) (λ k. of k wiped) end.0 cap.0 (state_of B.Book.means ledger.old) }
     ensures small { AllBelow (2 ^ 34) (receipt_of result) }
 {

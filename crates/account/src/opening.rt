@@ -25,8 +25,8 @@ impl<L: Line, B: Book> Account<L, B> {
         plan: PlanCode,
         moment: Moment,
     ) -> Result<Account<L, B>, RefusedOpening<L, B>>
-        ensures told { refusal_told result ≡ opening_refusal (world L.Line.tariff line B.Book.most) plan.0 moment.0 }
-        ensures account { account_told B.Book.means result ≡ opening (world L.Line.tariff line B.Book.most) plan.0 moment.0 }
+        ensures told { refusal_told result ≡ opening_refusal (world (L.Line.tariff line) B.Book.CAPACITY) plan.0 moment.0 }
+        ensures account { account_told B.Book.means result ≡ opening (world (L.Line.tariff line) B.Book.CAPACITY) plan.0 moment.0 }
         ensures handed { Handed line books result }
     {
         if moment.0 > LAST_MOMENT {

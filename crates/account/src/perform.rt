@@ -16,15 +16,15 @@ ghost use Rattle.account.specs.Leaving.{restart_concern, leave_concern};
 ghost use Rattle.account.specs.Meaning.{world};
 
 use crate::leaving::leave_books;
-use crate::wiping::{Cause, wiped_by_restart, wiped_by_switch};
+use crate::wiping::{wiped_by_restart, wiped_by_switch};
 use book::meaning::Book;
 use ledger::dates::new_due;
-use ledger::fee::start_on;
 use ledger::ledger::Ledger;
 use quantities::money::{Balance, Sums};
 use quantities::price::Price;
 use quantities::time::{CallDay, Day};
 use quantities::unit::{Count, UnitKind};
+use receipt::cause::Cause;
 use receipt::receipt::Receipt;
 use receipt::tally::Tally;
 use rules::call::{Call, Service, Status};
@@ -41,6 +41,7 @@ fn cost_of<K>(price: Price<K>, count: u32) -> Sums
 }
 
 // What the use of one unit came to.
+#[derive(Clone, Copy)]
 struct Served<K> {
     tally: Tally<K>,
     cost: Sums,
@@ -66,9 +67,7 @@ fn draw_on<K, B: Book>(book: &mut B, price: Price<K>, n: u32) -> Served<K>
 fn pay<B: Book>(ledger: &mut Ledger<B>, cost: Sums)
     ensures { state_of B.Book.means ledger.new ≡ with_balance (ledger.old.balance.sums.0 - cost.0) (state_of B.Book.means ledger.old) }
 {
-    ledger.balance = Balance {
-        sums: Sums(ledger.balance.sums.0.saturating_sub(cost.0)),
-    };
+    ledger.balance = ledger.balance.less(cost);
 }
 
 fn serve<B: Book>(ledger: &mut Ledger<B>, service: Option<Service>, n: u32) -> Receipt
@@ -76,47 +75,43 @@ fn serve<B: Book>(ledger: &mut Ledger<B>, service: Option<Service>, n: u32) -> R
     ensures small { AllBelow (2 ^ 46) (receipt_of result) }
 {
     let terms = ledger.terms;
-    let mut receipt = Receipt::nothing();
+    let books = &mut ledger.books;
     match service {
-        None => receipt,
+        None => Receipt::nothing(),
         Some(Service::Counted(UnitKind::Minutes)) => {
-            let Served { tally, cost } = draw_on(
-                &mut ledger.books.minutes,
-                terms.minutes.beyond,
-                n,
-            );
-            pay(ledger, cost);
-            receipt.minutes = tally;
-            receipt.use_charges = cost;
-            receipt
+            let used = draw_on(&mut books.minutes, terms.minutes.beyond, n);
+            pay(ledger, used.cost);
+            Receipt {
+                minutes: used.tally,
+                use_charges: used.cost,
+                ..Receipt::nothing()
+            }
         }
         Some(Service::Counted(UnitKind::Megabytes)) => {
-            let Served { tally, cost } = draw_on(
-                &mut ledger.books.megabytes,
-                terms.megabytes.beyond,
-                n,
-            );
-            pay(ledger, cost);
-            receipt.megabytes = tally;
-            receipt.use_charges = cost;
-            receipt
+            let used = draw_on(&mut books.megabytes, terms.megabytes.beyond, n);
+            pay(ledger, used.cost);
+            Receipt {
+                megabytes: used.tally,
+                use_charges: used.cost,
+                ..Receipt::nothing()
+            }
         }
         Some(Service::Counted(UnitKind::Messages)) => {
-            let Served { tally, cost } = draw_on(
-                &mut ledger.books.messages,
-                terms.messages.beyond,
-                n,
-            );
-            pay(ledger, cost);
-            receipt.messages = tally;
-            receipt.use_charges = cost;
-            receipt
+            let used = draw_on(&mut books.messages, terms.messages.beyond, n);
+            pay(ledger, used.cost);
+            Receipt {
+                messages: used.tally,
+                use_charges: used.cost,
+                ..Receipt::nothing()
+            }
         }
         Some(Service::International) => {
             let cost = cost_of(terms.international.price, n);
             pay(ledger, cost);
-            receipt.use_charges = cost;
-            receipt
+            Receipt {
+                use_charges: cost,
+                ..Receipt::nothing()
+            }
         }
     }
 }
@@ -132,8 +127,8 @@ fn top_up<B: Book>(ledger: &mut Ledger<B>, day: CallDay, sums: Sums) -> Receipt
     };
     match ledger.status {
         Status::Blocked => {
-            if ledger.terms.fee.sums.0 <= ledger.balance.sums.0 {
-                start_on(ledger, day)
+            if ledger.balance.covers(ledger.terms.fee.sums) {
+                ledger.start_on(day)
             } else {
                 Receipt::nothing()
             }
@@ -144,19 +139,19 @@ fn top_up<B: Book>(ledger: &mut Ledger<B>, day: CallDay, sums: Sums) -> Receipt
 
 // The books are wiped or kept up to the due day, and the account starts anew on the day.
 fn restart<B: Book>(ledger: &mut Ledger<B>, day: CallDay, due: Day) -> Receipt
-    requires { (ledger.old.status ≡ active due) × (restart_concern B.Book.most due.0 (new_due gregorian day.day.0) (state_of B.Book.means ledger.old) ≡ none_told) }
+    requires { (ledger.old.status ≡ active due) × (restart_concern B.Book.CAPACITY due.0 (new_due gregorian day.day.0) (state_of B.Book.means ledger.old) ≡ none_told) }
     ensures does { out (state_of B.Book.means ledger.new) (receipt_of result) ≡ restarted gregorian day.day.0 (state_of B.Book.means ledger.old) }
     ensures small { AllBelow (2 ^ 35) (receipt_of result) }
 {
     let wiped = wiped_by_restart(ledger.terms);
     let left = leave_books(ledger, Cause::Restart, wiped, due, new_due(day));
-    let started = start_on(ledger, day);
+    let started = ledger.start_on(day);
     left.plus(started)
 }
 
 // The books of a blocked account stay as they are, empty.
 fn leave_plan<B: Book>(ledger: &mut Ledger<B>, day: CallDay, entry: Entry) -> Receipt
-    requires { leave_concern B.Book.most (new_due gregorian day.day.0) (entry_of entry) (state_of B.Book.means ledger.old) ≡ none_told }
+    requires { leave_concern B.Book.CAPACITY (new_due gregorian day.day.0) (entry_of entry) (state_of B.Book.means ledger.old) ≡ none_told }
     ensures does { out (state_of B.Book.means ledger.new) (receipt_of result) ≡ leave_plan gregorian day.day.0 (entry_of entry) (state_of B.Book.means ledger.old) }
     ensures small { AllBelow (2 ^ 34) (receipt_of result) }
 {
@@ -174,9 +169,10 @@ fn pay_entry<B: Book>(ledger: &mut Ledger<B>, entry: Entry) -> Receipt
     ensures small { AllBelow (2 ^ 34) (receipt_of result) }
 {
     pay(ledger, entry.price);
-    let mut receipt = Receipt::nothing();
-    receipt.switch_charges = entry.price;
-    receipt
+    Receipt {
+        switch_charges: entry.price,
+        ..Receipt::nothing()
+    }
 }
 
 // The entry is paid, the old plan left, and the account starts on the new one on the day.
@@ -187,7 +183,7 @@ fn enter<B: Book>(
     terms: Terms,
     entry: Entry,
 ) -> Receipt
-    requires { leave_concern B.Book.most (new_due gregorian day.day.0) (entry_of entry) (state_of B.Book.means ledger.old) ≡ none_told }
+    requires { leave_concern B.Book.CAPACITY (new_due gregorian day.day.0) (entry_of entry) (state_of B.Book.means ledger.old) ≡ none_told }
     ensures does { out (state_of B.Book.means ledger.new) (receipt_of result) ≡ switched gregorian day.day.0 code.0 (terms_of terms) (entry_of entry) (state_of B.Book.means ledger.old) }
     ensures small { AllBelow (2 ^ 36) (receipt_of result) }
 {
@@ -195,7 +191,7 @@ fn enter<B: Book>(
     let left = leave_plan(ledger, day, entry);
     ledger.plan = code;
     ledger.terms = terms;
-    let started = start_on(ledger, day);
+    let started = ledger.start_on(day);
     paid.plus(left.plus(started))
 }
 
@@ -205,8 +201,8 @@ fn switch_to<L: Line, B: Book>(
     day: CallDay,
     code: PlanCode,
 ) -> Receipt
-    requires { first_refusal (checks (world L.Line.tariff line.now B.Book.most) day.day.0 (switch_call code) (state_of B.Book.means ledger.old)) ≡ none_told }
-    ensures does { out (state_of B.Book.means ledger.new) (receipt_of result) ≡ performed (world L.Line.tariff line.now B.Book.most) day.day.0 (switch_call code) (state_of B.Book.means ledger.old) }
+    requires { first_refusal (checks (world (L.Line.tariff line.now) B.Book.CAPACITY) day.day.0 (switch_call code) (state_of B.Book.means ledger.old)) ≡ none_told }
+    ensures does { out (state_of B.Book.means ledger.new) (receipt_of result) ≡ performed (world (L.Line.tariff line.now) B.Book.CAPACITY) day.day.0 (switch_call code) (state_of B.Book.means ledger.old) }
     ensures small { AllBelow (2 ^ 36) (receipt_of result) }
 {
     let Some(terms) = line.terms(code) else {
@@ -224,8 +220,8 @@ pub(crate) fn perform<L: Line, B: Book>(
     day: CallDay,
     call: Call,
 ) -> Receipt
-    requires { first_refusal (checks (world L.Line.tariff line.now B.Book.most) day.day.0 call (state_of B.Book.means ledger.old)) ≡ none_told }
-    ensures does { out (state_of B.Book.means ledger.new) (receipt_of result) ≡ performed (world L.Line.tariff line.now B.Book.most) day.day.0 call (state_of B.Book.means ledger.old) }
+    requires { first_refusal (checks (world (L.Line.tariff line.now) B.Book.CAPACITY) day.day.0 call (state_of B.Book.means ledger.old)) ≡ none_told }
+    ensures does { out (state_of B.Book.means ledger.new) (receipt_of result) ≡ performed (world (L.Line.tariff line.now) B.Book.CAPACITY) day.day.0 call (state_of B.Book.means ledger.old) }
     ensures small { AllBelow (2 ^ 46) (receipt_of result) }
 {
     match (ledger.status, call) {

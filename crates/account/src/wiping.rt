@@ -7,13 +7,6 @@ ghost use Rattle.account.specs.Leaving.{by_unit};
 use quantities::unit::PerUnit;
 use tariff::terms::{Entry, Fate, Terms};
 
-// What wipes.
-#[derive(Clone, Copy)]
-pub(crate) enum Cause {
-    Restart,
-    Switch,
-}
-
 pub(crate) fn wiped_by_restart(terms: Terms) -> PerUnit<bool>
     ensures { result ≡ by_unit (λ k. restart_wipes_unit k (terms_of terms)) }
 {
@@ -28,10 +21,7 @@ pub(crate) fn wiped_by_restart(terms: Terms) -> PerUnit<bool>
 pub(crate) fn wiped_by_switch(entry: Entry, terms: Terms) -> PerUnit<bool>
     ensures { result ≡ by_unit (switch_wipes_unit (entry_of entry) (terms_of terms)) }
 {
-    let wiped = match entry.fate {
-        Fate::Kept => false,
-        Fate::Wiped => true,
-    };
+    let wiped = matches!(entry.fate, Fate::Wiped);
     PerUnit {
         minutes: wiped,
         megabytes: wiped,

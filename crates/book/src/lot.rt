@@ -34,7 +34,7 @@ impl Lot {
     {
         Lot {
             amount: self.amount,
-            end: Day(cap.0.min(self.end.0)),
+            end: cap.min(self.end),
         }
     }
 }

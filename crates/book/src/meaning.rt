@@ -9,17 +9,12 @@ use quantities::time::Day;
 
 // A book of what is left of one unit: a fresh amount, which the latest fee granted, and old lots, left of earlier fees.
 pub trait Book: Sized {
-    // The most old lots that the book can hold.
+    // The most old lots that the book can hold, and the same number for clauses.
     const CAPACITY: usize;
 
-    // The capacity, as clauses name it.
-    ghost most: { ℕ };
+    ghost CAPACITY: { ℕ };
 
     ghost means: { Self → Allowance };
-
-    // The capacity, as generic code asks for it.
-    fn most_lots() -> usize
-        ensures value { result ≡ most };
 
     // Makes the fresh amount `n`; refused where a fresh amount is left or `n` is more than a fee may grant.
     fn fill(&mut self, n: u32) -> Result<(), BookFault>
@@ -53,7 +48,7 @@ pub trait Book: Sized {
     // Makes the fresh amount an old lot with this end, lowers each end past the cap to it, and joins lots of equal end;
     // refused where more old lots than the capacity, or more old units than a book may hold, would stand.
     fn set_aside(&mut self, end: Day, cap: Day) -> Result<(), BookFault>
-        ensures answer { result ≡ aside_answer most end.0 cap.0 (means self.old) }
+        ensures answer { result ≡ aside_answer CAPACITY end.0 cap.0 (means self.old) }
         ensures book { means self.new ≡ (if is_ok result then aside end.0 cap.0 (means self.old) else means self.old) }
         ensures same { is_ok result ≡ false → self.new ≡ self.old };
 
@@ -73,9 +68,9 @@ pub trait Book: Sized {
 
     // What `set_aside` would answer after a lapse on the day, which changes nothing.
     fn set_aside_after(&self, day: Day, end: Day, cap: Day) -> Result<(), BookFault>
-        ensures answer { result ≡ aside_answer most end.0 cap.0 (lapsed day.0 (means self.now)) };
+        ensures answer { result ≡ aside_answer CAPACITY end.0 cap.0 (lapsed day.0 (means self.now)) };
 
-    ghost roomy: { 1 ≤ most };
+    ghost roomy: { 1 ≤ CAPACITY };
 
-    ghost kept: { (b : Self) → Kept most (means b) };
+    ghost kept: { (b : Self) → Kept CAPACITY (means b) };
 }

@@ -28,8 +28,8 @@ fn tell(answer: Result<(), BookFault>) -> Answer
 }
 
 pub fn perform<B: Book>(book: &mut B, step: Step) -> Answer
-    ensures answer { result ≡ answered B.Book.most step (B.Book.means book.old) }
-    ensures book { B.Book.means book.new ≡ performed B.Book.most step (B.Book.means book.old) }
+    ensures answer { result ≡ answered B.Book.CAPACITY step (B.Book.means book.old) }
+    ensures book { B.Book.means book.new ≡ performed B.Book.CAPACITY step (B.Book.means book.old) }
 {
     match step {
         Step::Fill(n) => tell(book.fill(n)),
@@ -54,7 +54,7 @@ pub fn look<B: Book>(book: &B) -> Look
 
 // What set aside would answer after a lapse.
 pub fn ask<B: Book>(book: &B) -> Answer
-    ensures value { result ≡ asked B.Book.most (B.Book.means book.now) }
+    ensures value { result ≡ asked B.Book.CAPACITY (B.Book.means book.now) }
 {
     tell(book.set_aside_after(LATER, END, CAP))
 }

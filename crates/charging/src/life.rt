@@ -33,8 +33,8 @@ pub(crate) fn write_totals<B: Book + Drop>(
     books: PerUnit<B>,
     out: &mut [u64],
 ) -> Result<(), HostFault>
-    ensures answer { answer_of result ≡ totals_answer (three_lines B.Book.most) file.now (length out.old) }
-    ensures out { out.new ≡ (if is_ok result then overlaid 0 (life_row (total (file_postings (three_lines B.Book.most) file.now)) (file_closing (three_lines B.Book.most) file.now)) out.old else out.old) }
+    ensures answer { answer_of result ≡ totals_answer (three_lines B.Book.CAPACITY) file.now (length out.old) }
+    ensures out { out.new ≡ (if is_ok result then overlaid 0 (life_row (total (file_postings (three_lines B.Book.CAPACITY) file.now)) (file_closing (three_lines B.Book.CAPACITY) file.now)) out.old else out.old) }
 {
     if out.len() < LIFE_COLUMNS {
         return Err(HostFault::TooShort);

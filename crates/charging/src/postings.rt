@@ -22,10 +22,10 @@ fn run_onto<B: Book + Drop>(
     rows: &mut Rows<'_>,
 ) -> Result<(), HostFault>
     requires { (rows.old.used ≡ 0) × ((file_right file.now ≡ true → posting_columns * count file.now ≤ length rows.old.rows.now)) }
-    ensures answer { answer_of result ≡ file_number (refused_file (three_lines B.Book.most) file.now) }
+    ensures answer { answer_of result ≡ file_number (refused_file (three_lines B.Book.CAPACITY) file.now) }
     ensures lent { rows.new.rows.ghost_name ≡ rows.old.rows.ghost_name }
     ensures long { length rows.new.rows.now ≡ length rows.old.rows.now }
-    ensures rows { rows.new.rows.now ≡ (if is_ok result then overlaid 0 (posting_rows (file_postings (three_lines B.Book.most) file.now)) rows.old.rows.now else rows.old.rows.now) }
+    ensures rows { rows.new.rows.now ≡ (if is_ok result then overlaid 0 (posting_rows (file_postings (three_lines B.Book.CAPACITY) file.now)) rows.old.rows.now else rows.old.rows.now) }
 {
     let _ = post_file(file, three_lines(), books, rows)?;
     Ok(())
@@ -36,8 +36,8 @@ pub(crate) fn write_postings<B: Book + Drop>(
     books: PerUnit<B>,
     out: &mut [u64],
 ) -> Result<(), HostFault>
-    ensures answer { answer_of result ≡ postings_answer (three_lines B.Book.most) file.now (length out.old) }
-    ensures out { out.new ≡ (if is_ok result then overlaid 0 (posting_rows (file_postings (three_lines B.Book.most) file.now)) out.old else out.old) }
+    ensures answer { answer_of result ≡ postings_answer (three_lines B.Book.CAPACITY) file.now (length out.old) }
+    ensures out { out.new ≡ (if is_ok result then overlaid 0 (posting_rows (file_postings (three_lines B.Book.CAPACITY) file.now)) out.old else out.old) }
 {
     let trailer = Trailer::of(file)?;
     if out.len() < POSTING_COLUMNS * trailer.records() as usize {

@@ -24,8 +24,8 @@ pub fn post_records<L: Line, B: Book, J: Journal>(
     records: &mut Records<'_>,
     journal: &mut J,
 )
-    ensures posted { Taken J.Journal.takes journal.old (postings (world L.Line.tariff account.old.line B.Book.most) (account_of B.Book.means account.old) (coming records.old)) journal.new }
-    ensures account { account_of B.Book.means account.new ≡ closing (world L.Line.tariff account.old.line B.Book.most) (account_of B.Book.means account.old) (coming records.old) }
+    ensures posted { Taken J.Journal.takes journal.old (postings (world (L.Line.tariff account.old.line) B.Book.CAPACITY) (account_of B.Book.means account.old) (coming records.old)) journal.new }
+    ensures account { account_of B.Book.means account.new ≡ closing (world (L.Line.tariff account.old.line) B.Book.CAPACITY) (account_of B.Book.means account.old) (coming records.old) }
     ensures line { account.new.line ≡ account.old.line }
     ensures read { coming records.new ≡ [] }
     ensures position { position records.new ≡ end records.old }
@@ -42,9 +42,9 @@ fn post_trailed<L: Line + Drop, B: Book + Drop, J: Journal>(
     books: PerUnit<B>,
     journal: &mut J,
 ) -> Result<Account<L, B>, FileFault>
-    ensures refused { file_outcome_of result ≡ refused_file (world L.Line.tariff line B.Book.most) file.now }
-    ensures posted { OnOk result (Taken J.Journal.takes journal.old (file_postings (world L.Line.tariff line B.Book.most) file.now) journal.new) }
-    ensures account { IfOk result (λ a. Some (account_of B.Book.means a) ≡ file_closing (world L.Line.tariff line B.Book.most) file.now) }
+    ensures refused { file_outcome_of result ≡ refused_file (world (L.Line.tariff line) B.Book.CAPACITY) file.now }
+    ensures posted { OnOk result (Taken J.Journal.takes journal.old (file_postings (world (L.Line.tariff line) B.Book.CAPACITY) file.now) journal.new) }
+    ensures account { IfOk result (λ a. Some (account_of B.Book.means a) ≡ file_closing (world (L.Line.tariff line) B.Book.CAPACITY) file.now) }
     ensures line { IfOk result (λ a. a.line ≡ line) }
     ensures same { OnErr result (journal.new ≡ journal.old) }
 {
@@ -63,12 +63,12 @@ pub fn post_file<L: Line + Drop, B: Book + Drop, J: Journal>(
     books: PerUnit<B>,
     journal: &mut J,
 ) -> Result<Account<L, B>, FileFault>
-    ensures refused { file_outcome_of result ≡ refused_file (world L.Line.tariff line B.Book.most) file.now }
-    ensures posted { OnOk result (Taken J.Journal.takes journal.old (file_postings (world L.Line.tariff line B.Book.most) file.now) journal.new) }
-    ensures account { IfOk result (λ a. Some (account_of B.Book.means a) ≡ file_closing (world L.Line.tariff line B.Book.most) file.now) }
+    ensures refused { file_outcome_of result ≡ refused_file (world (L.Line.tariff line) B.Book.CAPACITY) file.now }
+    ensures posted { OnOk result (Taken J.Journal.takes journal.old (file_postings (world (L.Line.tariff line) B.Book.CAPACITY) file.now) journal.new) }
+    ensures account { IfOk result (λ a. Some (account_of B.Book.means a) ≡ file_closing (world (L.Line.tariff line) B.Book.CAPACITY) file.now) }
     ensures line { IfOk result (λ a. a.line ≡ line) }
     ensures same { OnErr result (journal.new ≡ journal.old) }
-    ensures law { IfOk result (λ a. LawOfFile (world L.Line.tariff line B.Book.most) file.now (file_postings (world L.Line.tariff line B.Book.most) file.now) (account_of B.Book.means a)) }
+    ensures law { IfOk result (λ a. LawOfFile (world (L.Line.tariff line) B.Book.CAPACITY) file.now (file_postings (world (L.Line.tariff line) B.Book.CAPACITY) file.now) (account_of B.Book.means a)) }
 {
     let account = post_trailed(file, line, books, journal)?;
     Ok(account)

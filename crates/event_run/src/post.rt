@@ -36,8 +36,8 @@ fn in_file(res: Result<(), Fault>, place: Place) -> Result<(), FileFault>
 
 // Posts a record: a wrong one makes no call.
 pub(crate) fn post<L: Line, B: Book>(account: &mut Account<L, B>, part: Part<'_>) -> Posted
-    ensures posted { posting_of result ≡ posting (placed part.entry) (answer_at (world L.Line.tariff account.old.line B.Book.most) (account_of B.Book.means account.old) (placed part.entry)) }
-    ensures account { account_of B.Book.means account.new ≡ (answer_at (world L.Line.tariff account.old.line B.Book.most) (account_of B.Book.means account.old) (placed part.entry)).account }
+    ensures posted { posting_of result ≡ posting (placed part.entry) (answer_at (world (L.Line.tariff account.old.line) B.Book.CAPACITY) (account_of B.Book.means account.old) (placed part.entry)) }
+    ensures account { account_of B.Book.means account.new ≡ (answer_at (world (L.Line.tariff account.old.line) B.Book.CAPACITY) (account_of B.Book.means account.old) (placed part.entry)).account }
     ensures line { account.new.line ≡ account.old.line }
 {
     let place = part.place;

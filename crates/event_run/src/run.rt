@@ -25,8 +25,8 @@ pub(crate) fn post_all<L: Line, B: Book>(
     account: &mut Account<L, B>,
     records: &mut Records<'_>,
 ) -> Result<Vec<Posted>, Stopped>
-    ensures posted { IfOk result (λ v. map posting_of v.items ≡ postings (world L.Line.tariff account.old.line B.Book.most) (account_of B.Book.means account.old) (coming records.old)) }
-    ensures account { IfOk result (λ v. account_of B.Book.means account.new ≡ closing (world L.Line.tariff account.old.line B.Book.most) (account_of B.Book.means account.old) (coming records.old)) }
+    ensures posted { IfOk result (λ v. map posting_of v.items ≡ postings (world (L.Line.tariff account.old.line) B.Book.CAPACITY) (account_of B.Book.means account.old) (coming records.old)) }
+    ensures account { IfOk result (λ v. account_of B.Book.means account.new ≡ closing (world (L.Line.tariff account.old.line) B.Book.CAPACITY) (account_of B.Book.means account.old) (coming records.old)) }
     ensures line { account.new.line ≡ account.old.line }
     ensures right { file_refusal_told result ≡ None }
 {
@@ -53,8 +53,8 @@ pub(crate) fn open_by<L: Line + Drop, B: Book + Drop>(
     line: L,
     books: PerUnit<B>,
 ) -> Result<Account<L, B>, FileFault>
-    ensures told { file_outcome_of result ≡ placed_outcome (opening_refusal (world L.Line.tariff line B.Book.most) trailer.plan.0 trailer.moment.0) no_place }
-    ensures account { IfOk result (λ a. Some (account_of B.Book.means a) ≡ opening (world L.Line.tariff line B.Book.most) trailer.plan.0 trailer.moment.0) }
+    ensures told { file_outcome_of result ≡ placed_outcome (opening_refusal (world (L.Line.tariff line) B.Book.CAPACITY) trailer.plan.0 trailer.moment.0) no_place }
+    ensures account { IfOk result (λ a. Some (account_of B.Book.means a) ≡ opening (world (L.Line.tariff line) B.Book.CAPACITY) trailer.plan.0 trailer.moment.0) }
     ensures line { IfOk result (λ a. a.line ≡ line) }
 {
     match Account::open(line, books, trailer.plan, trailer.moment) {
@@ -75,9 +75,9 @@ fn run_records<L: Line + Drop, B: Book + Drop>(
     line: L,
     books: PerUnit<B>,
 ) -> Result<Run<L, B>, Stopped>
-    ensures refused { file_refusal_told result ≡ refused_file (world L.Line.tariff line B.Book.most) file.now }
-    ensures posted { IfOk result (λ x. map posting_of x.posted.items ≡ file_postings (world L.Line.tariff line B.Book.most) file.now) }
-    ensures account { IfOk result (λ x. Some (account_of B.Book.means x.account) ≡ file_closing (world L.Line.tariff line B.Book.most) file.now) }
+    ensures refused { file_refusal_told result ≡ refused_file (world (L.Line.tariff line) B.Book.CAPACITY) file.now }
+    ensures posted { IfOk result (λ x. map posting_of x.posted.items ≡ file_postings (world (L.Line.tariff line) B.Book.CAPACITY) file.now) }
+    ensures account { IfOk result (λ x. Some (account_of B.Book.means x.account) ≡ file_closing (world (L.Line.tariff line) B.Book.CAPACITY) file.now) }
     ensures line { IfOk result (λ x. x.account.line ≡ line) }
 {
     let trailer = Trailer::of(file)?;
@@ -94,11 +94,11 @@ pub fn run_file<L: Line + Drop, B: Book + Drop>(
     line: L,
     books: PerUnit<B>,
 ) -> Result<Run<L, B>, Stopped>
-    ensures refused { file_refusal_told result ≡ refused_file (world L.Line.tariff line B.Book.most) file.now }
-    ensures posted { IfOk result (λ x. map posting_of x.posted.items ≡ file_postings (world L.Line.tariff line B.Book.most) file.now) }
-    ensures account { IfOk result (λ x. Some (account_of B.Book.means x.account) ≡ file_closing (world L.Line.tariff line B.Book.most) file.now) }
+    ensures refused { file_refusal_told result ≡ refused_file (world (L.Line.tariff line) B.Book.CAPACITY) file.now }
+    ensures posted { IfOk result (λ x. map posting_of x.posted.items ≡ file_postings (world (L.Line.tariff line) B.Book.CAPACITY) file.now) }
+    ensures account { IfOk result (λ x. Some (account_of B.Book.means x.account) ≡ file_closing (world (L.Line.tariff line) B.Book.CAPACITY) file.now) }
     ensures line { IfOk result (λ x. x.account.line ≡ line) }
-    ensures law { IfOk result (λ x. LawOfFile (world L.Line.tariff line B.Book.most) file.now (map posting_of x.posted.items) (account_of B.Book.means x.account)) }
+    ensures law { IfOk result (λ x. LawOfFile (world (L.Line.tariff line) B.Book.CAPACITY) file.now (map posting_of x.posted.items) (account_of B.Book.means x.account)) }
 {
     let run = run_records(heap, file, line, books)?;
     Ok(run)

@@ -6,45 +6,46 @@ ghost use Rattle.receipt.specs.Columns.{receipt_of, AllBelow};
 ghost use Rattle.ledger.specs.Meaning.{state_of, out};
 
 use crate::books::lapse_book;
-use crate::due::handle;
 use crate::ledger::Ledger;
 use book::meaning::Book;
 use quantities::time::CallDay;
 use receipt::receipt::Receipt;
 use rules::call::Status;
 
-// Handles every due day at or before the day, one after another.
-pub fn settle<B: Book>(ledger: &mut Ledger<B>, day: CallDay) -> Receipt
-    ensures does { out (state_of B.Book.means ledger.new) (receipt_of result) ≡ settled gregorian (suc day.day.0) day.day.0 (state_of B.Book.means ledger.old) }
-    ensures small { AllBelow (2 ^ 52) (receipt_of result) }
-{
-    let mut total = Receipt::nothing();
-    while let Status::Active(due) = ledger.status {
-        if due.0 > day.day.0 {
-            break;
+impl<B: Book> Ledger<B> {
+    // Handles every due day at or before the day, one after another.
+    pub fn settle(&mut self, day: CallDay) -> Receipt
+        ensures does { out (state_of B.Book.means self.new) (receipt_of result) ≡ settled gregorian (suc day.day.0) day.day.0 (state_of B.Book.means self.old) }
+        ensures small { AllBelow (2 ^ 52) (receipt_of result) }
+    {
+        let mut total = Receipt::nothing();
+        while let Status::Active(due) = self.status {
+            if due > day.day {
+                break;
+            }
+            let receipt = self.handle(CallDay { day: due });
+            total = total.plus(receipt);
         }
-        let receipt = handle(ledger, CallDay { day: due });
-        total = total.plus(receipt);
+        total
     }
-    total
-}
 
-fn lapse<B: Book>(ledger: &mut Ledger<B>, day: CallDay) -> Receipt
-    ensures does { out (state_of B.Book.means ledger.new) (receipt_of result) ≡ lapse_all day.day.0 (state_of B.Book.means ledger.old) }
-    ensures small { AllBelow (2 ^ 34) (receipt_of result) }
-{
-    let minutes = lapse_book(&mut ledger.books.minutes, day.day);
-    let megabytes = lapse_book(&mut ledger.books.megabytes, day.day);
-    let messages = lapse_book(&mut ledger.books.messages, day.day);
-    Receipt::of_units(minutes, megabytes, messages)
-}
+    fn lapse(&mut self, day: CallDay) -> Receipt
+        ensures does { out (state_of B.Book.means self.new) (receipt_of result) ≡ lapse_all day.day.0 (state_of B.Book.means self.old) }
+        ensures small { AllBelow (2 ^ 34) (receipt_of result) }
+    {
+        let minutes = lapse_book(&mut self.books.minutes, day.day);
+        let megabytes = lapse_book(&mut self.books.megabytes, day.day);
+        let messages = lapse_book(&mut self.books.messages, day.day);
+        Receipt::of_units(minutes, megabytes, messages)
+    }
 
-// Handles the due days, and lets old lots lapse.
-pub fn bring_up<B: Book>(ledger: &mut Ledger<B>, day: CallDay) -> Receipt
-    ensures does { out (state_of B.Book.means ledger.new) (receipt_of result) ≡ bring_up gregorian day.day.0 (state_of B.Book.means ledger.old) }
-    ensures small { AllBelow (2 ^ 53) (receipt_of result) }
-{
-    let settled = settle(ledger, day);
-    let lapsed = lapse(ledger, day);
-    settled.plus(lapsed)
+    // Handles the due days, and lets old lots lapse.
+    pub fn bring_up(&mut self, day: CallDay) -> Receipt
+        ensures does { out (state_of B.Book.means self.new) (receipt_of result) ≡ bring_up gregorian day.day.0 (state_of B.Book.means self.old) }
+        ensures small { AllBelow (2 ^ 53) (receipt_of result) }
+    {
+        let settled = self.settle(day);
+        let lapsed = self.lapse(day);
+        settled.plus(lapsed)
+    }
 }

@@ -13,10 +13,7 @@ pub(crate) fn next_due(day: CallDay, anchor: Option<Anchor>) -> Day
     requires { (1 ≤ anchor_day anchor) × (anchor_day anchor ≤ 31) }
     ensures { result.0 ≡ gregorian.due_after day.day.0 (anchor_day anchor) }
 {
-    let anchor = match anchor {
-        Some(anchor) => anchor,
-        None => Anchor(1),
-    };
+    let anchor = anchor.unwrap_or(Anchor(1));
     let Some(due) = due_day(day.day, anchor) else {
         unreachable()
     };

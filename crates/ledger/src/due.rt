@@ -7,45 +7,46 @@ ghost use Rattle.ledger.specs.Meaning.{state_of, out};
 
 use crate::books::{close_book, forfeit_book};
 use crate::dates::next_due;
-use crate::fee::take_fee;
 use crate::ledger::Ledger;
 use book::meaning::Book;
 use quantities::time::{CallDay, Day};
 use receipt::receipt::Receipt;
 use rules::call::Status;
 
-pub(crate) fn close_month<B: Book>(ledger: &mut Ledger<B>, end: Day) -> Receipt
-    ensures does { out (state_of B.Book.means ledger.new) (receipt_of result) ≡ close_month end.0 (state_of B.Book.means ledger.old) }
-    ensures small { AllBelow (2 ^ 34) (receipt_of result) }
-{
-    let carries = ledger.terms.carries;
-    let minutes = close_book(&mut ledger.books.minutes, carries, end);
-    let megabytes = close_book(&mut ledger.books.megabytes, carries, end);
-    let messages = close_book(&mut ledger.books.messages, carries, end);
-    Receipt::of_units(minutes, megabytes, messages)
-}
+impl<B: Book> Ledger<B> {
+    pub(crate) fn close_month(&mut self, end: Day) -> Receipt
+        ensures does { out (state_of B.Book.means self.new) (receipt_of result) ≡ close_month end.0 (state_of B.Book.means self.old) }
+        ensures small { AllBelow (2 ^ 34) (receipt_of result) }
+    {
+        let carries = self.terms.carries;
+        let minutes = close_book(&mut self.books.minutes, carries, end);
+        let megabytes = close_book(&mut self.books.megabytes, carries, end);
+        let messages = close_book(&mut self.books.messages, carries, end);
+        Receipt::of_units(minutes, megabytes, messages)
+    }
 
-pub(crate) fn block<B: Book>(ledger: &mut Ledger<B>) -> Receipt
-    ensures does { out (state_of B.Book.means ledger.new) (receipt_of result) ≡ blocked_out (state_of B.Book.means ledger.old) }
-    ensures small { AllBelow (2 ^ 34) (receipt_of result) }
-{
-    let minutes = forfeit_book(&mut ledger.books.minutes);
-    let megabytes = forfeit_book(&mut ledger.books.megabytes);
-    let messages = forfeit_book(&mut ledger.books.messages);
-    ledger.status = Status::Blocked;
-    Receipt::of_units(minutes, megabytes, messages)
-}
+    pub(crate) fn block(&mut self) -> Receipt
+        ensures does { out (state_of B.Book.means self.new) (receipt_of result) ≡ blocked_out (state_of B.Book.means self.old) }
+        ensures small { AllBelow (2 ^ 34) (receipt_of result) }
+    {
+        let minutes = forfeit_book(&mut self.books.minutes);
+        let megabytes = forfeit_book(&mut self.books.megabytes);
+        let messages = forfeit_book(&mut self.books.messages);
+        self.status = Status::Blocked;
+        Receipt::of_units(minutes, megabytes, messages)
+    }
 
-pub(crate) fn handle<B: Book>(ledger: &mut Ledger<B>, day: CallDay) -> Receipt
-    ensures does { out (state_of B.Book.means ledger.new) (receipt_of result) ≡ handled gregorian day.day.0 (state_of B.Book.means ledger.old) }
-    ensures small { AllBelow (2 ^ 35) (receipt_of result) }
-{
-    if ledger.terms.fee.sums.0 <= ledger.balance.sums.0 {
-        let end = next_due(day, ledger.anchor);
-        let closed = close_month(ledger, end);
-        let fee = take_fee(ledger, day);
-        closed.plus(fee)
-    } else {
-        block(ledger)
+    pub(crate) fn handle(&mut self, day: CallDay) -> Receipt
+        ensures does { out (state_of B.Book.means self.new) (receipt_of result) ≡ handled gregorian day.day.0 (state_of B.Book.means self.old) }
+        ensures small { AllBelow (2 ^ 35) (receipt_of result) }
+    {
+        if self.balance.covers(self.terms.fee.sums) {
+            let end = next_due(day, self.anchor);
+            let closed = self.close_month(end);
+            let fee = self.take_fee(day);
+            closed.plus(fee)
+        } else {
+            self.block()
+        }
     }
 }

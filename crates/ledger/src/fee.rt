@@ -9,37 +9,36 @@ use crate::books::fill_book;
 use crate::dates::{anchor_on, next_due};
 use crate::ledger::Ledger;
 use book::meaning::Book;
-use quantities::money::{Balance, Sums};
 use quantities::time::CallDay;
 use receipt::receipt::Receipt;
 use rules::call::Status;
 
-// The balance falls by the fee, the status is active until the next due day, the option goes off, the books are filled.
-pub fn take_fee<B: Book>(ledger: &mut Ledger<B>, day: CallDay) -> Receipt
-    ensures does { out (state_of B.Book.means ledger.new) (receipt_of result) ≡ take_fee gregorian day.day.0 (state_of B.Book.means ledger.old) }
-    ensures small { AllBelow (2 ^ 34) (receipt_of result) }
-{
-    let terms = ledger.terms;
-    let fee = terms.fee.sums;
-    ledger.balance = Balance {
-        sums: Sums(ledger.balance.sums.0.saturating_sub(fee.0)),
-    };
-    ledger.status = Status::Active(next_due(day, ledger.anchor));
-    ledger.last_fee = Some(day.day);
-    ledger.option = false;
-    let minutes = fill_book(&mut ledger.books.minutes, terms.minutes.amount);
-    let megabytes = fill_book(&mut ledger.books.megabytes, terms.megabytes.amount);
-    let messages = fill_book(&mut ledger.books.messages, terms.messages.amount);
-    let mut receipt = Receipt::of_units(minutes, megabytes, messages);
-    receipt.fees = fee;
-    receipt
-}
+impl<B: Book> Ledger<B> {
+    // The balance falls by the fee, the status is active until the next due day, the option goes off, the books are filled.
+    pub fn take_fee(&mut self, day: CallDay) -> Receipt
+        ensures does { out (state_of B.Book.means self.new) (receipt_of result) ≡ take_fee gregorian day.day.0 (state_of B.Book.means self.old) }
+        ensures small { AllBelow (2 ^ 34) (receipt_of result) }
+    {
+        let terms = self.terms;
+        self.balance = self.balance.less(terms.fee.sums);
+        self.status = Status::Active(next_due(day, self.anchor));
+        self.last_fee = Some(day.day);
+        self.option = false;
+        let minutes = fill_book(&mut self.books.minutes, terms.minutes.amount);
+        let megabytes = fill_book(&mut self.books.megabytes, terms.megabytes.amount);
+        let messages = fill_book(&mut self.books.messages, terms.messages.amount);
+        Receipt {
+            fees: terms.fee.sums,
+            ..Receipt::of_units(minutes, megabytes, messages)
+        }
+    }
 
-// The day of the month becomes the anchor, and the fee is taken on the day.
-pub fn start_on<B: Book>(ledger: &mut Ledger<B>, day: CallDay) -> Receipt
-    ensures does { out (state_of B.Book.means ledger.new) (receipt_of result) ≡ start_on gregorian day.day.0 (state_of B.Book.means ledger.old) }
-    ensures small { AllBelow (2 ^ 34) (receipt_of result) }
-{
-    ledger.anchor = Some(anchor_on(day));
-    take_fee(ledger, day)
+    // The day of the month becomes the anchor, and the fee is taken on the day.
+    pub fn start_on(&mut self, day: CallDay) -> Receipt
+        ensures does { out (state_of B.Book.means self.new) (receipt_of result) ≡ start_on gregorian day.day.0 (state_of B.Book.means self.old) }
+        ensures small { AllBelow (2 ^ 34) (receipt_of result) }
+    {
+        self.anchor = Some(anchor_on(day));
+        self.take_fee(day)
+    }
 }

@@ -1,7 +1,7 @@
 // The line Doimiy: plans 1 to 6.
 ghost use Rattle.plans.specs.LawfulLines.{doimiy};
 
-use crate::plan::{UNLIMITED, charged, free, full_plan};
+use crate::plan::{CHARGE, FREE, UNLIMITED, entry, full_plan};
 use tariff::line::Line;
 use tariff::terms::{Entry, Fate, PlanCode, Terms};
 
@@ -28,11 +28,11 @@ impl Line for Doimiy {
 
     fn entry(&self, from: PlanCode, to: PlanCode) -> Option<Entry> {
         match (from.0, to.0) {
-            (a @ 1..=6, b @ 1..=6) if a < b => Some(free(Fate::Kept)),
-            (a @ 1..=6, b @ 1..=6) if a > b => Some(charged(Fate::Wiped)),
-            (11..=16 | 21, 1..=6) => Some(free(Fate::Wiped)),
-            (22, 1..=3) => Some(charged(Fate::Wiped)),
-            (22, 4..=6) => Some(free(Fate::Wiped)),
+            (a @ 1..=6, b @ 1..=6) if a < b => Some(entry(FREE, Fate::Kept)),
+            (a @ 1..=6, b @ 1..=6) if a > b => Some(entry(CHARGE, Fate::Wiped)),
+            (11..=16 | 21, 1..=6) => Some(entry(FREE, Fate::Wiped)),
+            (22, 1..=3) => Some(entry(CHARGE, Fate::Wiped)),
+            (22, 4..=6) => Some(entry(FREE, Fate::Wiped)),
             _ => None,
         }
     }

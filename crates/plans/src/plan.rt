@@ -1,8 +1,8 @@
 // How a plan's terms, and what entry takes, are put together from a row of numbers.
 ghost use Rattle.std.specs.Prelude.{◌≡◌, ◌*◌, ◌≤◌};
-ghost use Rattle.quantities.specs.Limits.{most_grant, most_price};
+ghost use Rattle.quantities.specs.Limits.{most_grant, most_price, most_entry_price};
 ghost use Rattle.tariff.specs.Terms.{terms_of, unit_terms_of, entry_of};
-ghost use Rattle.plans.specs.Plans.{offered_unit, missing_unit, full_plan, internet_plan, free_entry, charged_entry};
+ghost use Rattle.plans.specs.Plans.{offered_unit, missing_unit, full_plan, internet_plan};
 
 use quantities::money::{Fee, Sums};
 use quantities::price::Price;
@@ -20,8 +20,10 @@ const WIPED_BY_RESTART: bool = true;
 
 const KEPT_BY_RESTART: bool = false;
 
-// The sums that entry costs where it isn't free.
-const ENTRY_CHARGE: u64 = 2_105;
+// The sums that entry costs where it is free, and where it isn't.
+pub(crate) const FREE: u64 = 0;
+
+pub(crate) const CHARGE: u64 = 2_105;
 
 // The fee of a plan by the number in its name.
 fn named(name: u32) -> Fee
@@ -104,20 +106,13 @@ pub(crate) fn internet_plan(name: u32, megabytes: u32, beyond: u32) -> Terms
     }
 }
 
-pub(crate) fn free(fate: Fate) -> Entry
-    ensures value { entry_of result ≡ free_entry fate }
+// What it takes to enter a plan, with the price that it names.
+pub(crate) fn entry(sums: u64, fate: Fate) -> Entry
+    requires { sums ≤ most_entry_price }
+    ensures value { entry_of result ≡ record { price = sums; fate = fate } }
 {
     Entry {
-        price: Sums(0),
-        fate,
-    }
-}
-
-pub(crate) fn charged(fate: Fate) -> Entry
-    ensures value { entry_of result ≡ charged_entry fate }
-{
-    Entry {
-        price: Sums(ENTRY_CHARGE),
+        price: Sums(sums),
         fate,
     }
 }

@@ -1,7 +1,7 @@
 // The single plans: 21, Ovoz 15, and 22, Internet 60.
 ghost use Rattle.plans.specs.LawfulLines.{single_line};
 
-use crate::plan::{charged, free, full_plan, internet_plan};
+use crate::plan::{CHARGE, FREE, entry, full_plan, internet_plan};
 use tariff::line::Line;
 use tariff::terms::{Entry, Fate, PlanCode, Terms};
 
@@ -24,10 +24,10 @@ impl Line for SinglePlans {
 
     fn entry(&self, from: PlanCode, to: PlanCode) -> Option<Entry> {
         match (from.0, to.0) {
-            (1..=6 | 11..=16 | 22, 21) => Some(charged(Fate::Wiped)),
-            (4..=6, 22) => Some(charged(Fate::Wiped)),
-            (1..=3 | 11..=16, 22) => Some(free(Fate::Wiped)),
-            (21, 22) => Some(free(Fate::Kept)),
+            (1..=6 | 11..=16 | 22, 21) => Some(entry(CHARGE, Fate::Wiped)),
+            (4..=6, 22) => Some(entry(CHARGE, Fate::Wiped)),
+            (1..=3 | 11..=16, 22) => Some(entry(FREE, Fate::Wiped)),
+            (21, 22) => Some(entry(FREE, Fate::Kept)),
             _ => None,
         }
     }

@@ -1,7 +1,7 @@
 // The line Sof: plans 11 to 16.
 ghost use Rattle.plans.specs.LawfulLines.{sof};
 
-use crate::plan::{UNLIMITED, charged, free, full_plan};
+use crate::plan::{CHARGE, FREE, UNLIMITED, entry, full_plan};
 use tariff::line::Line;
 use tariff::terms::{Entry, Fate, PlanCode, Terms};
 
@@ -28,11 +28,11 @@ impl Line for Sof {
 
     fn entry(&self, from: PlanCode, to: PlanCode) -> Option<Entry> {
         match (from.0, to.0) {
-            (a @ 11..=16, b @ 11..=16) if a < b => Some(free(Fate::Kept)),
-            (a @ 11..=16, b @ 11..=16) if a > b => Some(charged(Fate::Wiped)),
-            (21, 11..=16) => Some(free(Fate::Kept)),
-            (22, 11..=14) => Some(charged(Fate::Wiped)),
-            (22, 15..=16) => Some(free(Fate::Kept)),
+            (a @ 11..=16, b @ 11..=16) if a < b => Some(entry(FREE, Fate::Kept)),
+            (a @ 11..=16, b @ 11..=16) if a > b => Some(entry(CHARGE, Fate::Wiped)),
+            (21, 11..=16) => Some(entry(FREE, Fate::Kept)),
+            (22, 11..=14) => Some(entry(CHARGE, Fate::Wiped)),
+            (22, 15..=16) => Some(entry(FREE, Fate::Kept)),
             _ => None,
         }
     }

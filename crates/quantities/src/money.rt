@@ -1,5 +1,5 @@
 // Money: whole sums (UZS), and the two sums that have limits of their own.
-ghost use Rattle.std.specs.Prelude.{◌≡◌, ◌+◌, ◌-◌, ◌^◌, ◌≤◌, min, Some, decimal};
+ghost use Rattle.std.specs.Prelude.{◌≡◌, ◌+◌, ◌-◌, ◌^◌, ◌≤◌, min, Some, decimal, nat_le};
 ghost use Rattle.quantities.specs.Limits.{most_fee, most_balance};
 
 use std::fmt;
@@ -24,6 +24,13 @@ pub struct Balance {
 }
 
 impl Balance {
+    // Whether a charge can be taken from it.
+    pub fn covers(self, charge: Sums) -> bool
+        ensures { result ≡ nat_le charge.0 self.sums.0 }
+    {
+        charge <= self.sums
+    }
+
     // What is left after a charge, which is no more than the balance wherever the rules let it be taken; else nothing.
     pub fn less(self, charge: Sums) -> Balance
         ensures { result.sums.0 ≡ self.sums.0 - charge.0 }

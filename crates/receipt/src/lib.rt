@@ -1,5 +1,6 @@
 // The receipt that a call fills.
 #![tactic(auto)]
 
+pub mod cause;
 pub mod receipt;
 pub mod tally;

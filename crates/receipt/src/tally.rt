@@ -1,8 +1,10 @@
 // What a call did to one unit.
 ghost use Rattle.std.specs.Prelude.{◌≡◌, ◌^◌};
-ghost use Rattle.rules.specs.Receipt.{none as nothing_told, granting, used, ending, wiping_by_restart, wiping_by_switch, ◌⊞◌};
+ghost use Rattle.rules.specs.Receipt.{none as nothing_told, granting, used, ending, ◌⊞◌};
 ghost use Rattle.receipt.specs.Columns.{tally_of, capped_tally, Below};
+ghost use Rattle.receipt.specs.Wiping.{wiping};
 
+use crate::cause::Cause;
 use quantities::unit::{Count, Total};
 
 // One column for each thing that can become of units of one kind.
@@ -40,43 +42,46 @@ impl<K> Tally<K> {
     pub fn granted(count: u32) -> Self
         ensures { tally_of result ≡ granting count }
     {
-        let mut tally = Tally::none();
-        tally.granted = Total::new(count as u64);
-        tally
+        Tally {
+            granted: Total::new(u64::from(count)),
+            ..Tally::none()
+        }
     }
 
     pub fn used(within: u32, beyond: u32) -> Self
         ensures { tally_of result ≡ used within beyond }
     {
-        let mut tally = Tally::none();
-        tally.within = Total::new(within as u64);
-        tally.beyond = Total::new(beyond as u64);
-        tally
+        Tally {
+            within: Total::new(u64::from(within)),
+            beyond: Total::new(u64::from(beyond)),
+            ..Tally::none()
+        }
     }
 
     pub fn ended(ended: u64, late: u64) -> Self
         ensures { tally_of result ≡ ending ended late }
     {
-        let mut tally = Tally::none();
-        tally.ended = Total::new(ended);
-        tally.late = Total::new(late);
-        tally
+        Tally {
+            ended: Total::new(ended),
+            late: Total::new(late),
+            ..Tally::none()
+        }
     }
 
-    pub fn wiped_by_restart(count: u64) -> Self
-        ensures { tally_of result ≡ wiping_by_restart count }
+    pub fn wiped(cause: Cause, count: u64) -> Self
+        ensures { tally_of result ≡ wiping cause count }
     {
-        let mut tally = Tally::none();
-        tally.wiped_by_restart = Total::new(count);
-        tally
-    }
-
-    pub fn wiped_by_switch(count: u64) -> Self
-        ensures { tally_of result ≡ wiping_by_switch count }
-    {
-        let mut tally = Tally::none();
-        tally.wiped_by_switch = Total::new(count);
-        tally
+        let count = Total::new(count);
+        match cause {
+            Cause::Restart => Tally {
+                wiped_by_restart: count,
+                ..Tally::none()
+            },
+            Cause::Switch => Tally {
+                wiped_by_switch: count,
+                ..Tally::none()
+            },
+        }
     }
 
     // Column by column; exact wherever the sums fit, as those of an account always do.

@@ -24,20 +24,24 @@ impl Small {
     }
 }
 
+impl Default for Small {
+    ghost is_default = { λ b. meaning b ≡ empty };
+
+    fn default() -> Small {
+        Small::new()
+    }
+}
+
 impl Book for Small {
     const CAPACITY: usize = 1;
 
-    ghost most = { 1 };
+    ghost CAPACITY = { 1 };
 
     ghost means = { meaning };
 
     ghost roomy = { first_of (Prim.search rules, Prim.grind (arith, Self.row.coded.inj)) };
 
     ghost kept = { first_of (Prim.search rules, Prim.grind (arith, Self.row.coded.inj)) };
-
-    fn most_lots() -> usize {
-        Self::CAPACITY
-    }
 
     fn fill(&mut self, n: u32) -> Result<(), BookFault> {
         if self.fresh != 0 {
@@ -88,8 +92,8 @@ impl Book for Small {
     }
 
     fn set_aside(&mut self, end: Day, cap: Day) -> Result<(), BookFault> {
-        let old_end = Day(cap.0.min(self.end.0));
-        let fresh_end = Day(cap.0.min(end.0));
+        let old_end = cap.min(self.end);
+        let fresh_end = cap.min(end);
         if self.old > 0 && self.fresh > 0 && old_end != fresh_end {
             return Err(BookFault::TooManyLots);
         }

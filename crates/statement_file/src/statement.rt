@@ -37,8 +37,8 @@ fn written<L: Line + Drop, B: Book + Drop>(
     line: L,
     books: PerUnit<B>,
 ) -> Result<String, NoStatement>
-    ensures text { IfOk result (λ s. text_of_statement (world L.Line.tariff line B.Book.most) file.now ≡ Some (string_bytes s)) }
-    ensures untold { IfErr result (Untold (world L.Line.tariff line B.Book.most) file.now) }
+    ensures text { IfOk result (λ s. text_of_statement (world (L.Line.tariff line) B.Book.CAPACITY) file.now ≡ Some (string_bytes s)) }
+    ensures untold { IfErr result (Untold (world (L.Line.tariff line) B.Book.CAPACITY) file.now) }
 {
     match run_file(heap, file, line, books) {
         Ok(run) => {
@@ -61,9 +61,9 @@ pub fn statement<L: Line + Drop, B: Book + Drop>(
     line: L,
     books: PerUnit<B>,
 ) -> Result<String, NoStatement>
-    ensures text { IfOk result (λ s. text_of_statement (world L.Line.tariff line B.Book.most) file.now ≡ Some (string_bytes s)) }
-    ensures untold { IfErr result (Untold (world L.Line.tariff line B.Book.most) file.now) }
-    ensures law { ObeysLaw (world L.Line.tariff line B.Book.most) file.now }
+    ensures text { IfOk result (λ s. text_of_statement (world (L.Line.tariff line) B.Book.CAPACITY) file.now ≡ Some (string_bytes s)) }
+    ensures untold { IfErr result (Untold (world (L.Line.tariff line) B.Book.CAPACITY) file.now) }
+    ensures law { ObeysLaw (world (L.Line.tariff line) B.Book.CAPACITY) file.now }
 {
     written(heap, file, line, books)
 }

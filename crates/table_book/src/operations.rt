@@ -28,17 +28,13 @@ impl Table {
 impl Book for Table {
     const CAPACITY: usize = MOST_LOTS;
 
-    ghost most = { most_lots };
+    ghost CAPACITY = { most_lots };
 
     ghost means = { meaning };
 
     ghost roomy = { first_of (Prim.search rules, Prim.grind (arith, Self.row.coded.inj)) };
 
     ghost kept = { first_of (Prim.search rules, Prim.grind (arith, Self.row.coded.inj)) };
-
-    fn most_lots() -> usize {
-        Self::CAPACITY
-    }
 
     fn fill(&mut self, n: u32) -> Result<(), BookFault> {
         if self.fresh != 0 {

@@ -28,11 +28,11 @@ pub fn life_of_file<L: Line + Drop, B: Book + Drop>(
     line: L,
     books: PerUnit<B>,
 ) -> Result<Life<L, B>, FileFault>
-    ensures refused { file_outcome_of result ≡ refused_file (world L.Line.tariff line B.Book.most) file.now }
-    ensures account { IfOk result (λ x. Some (account_of B.Book.means x.account) ≡ file_closing (world L.Line.tariff line B.Book.most) file.now) }
-    ensures total { IfOk result (λ x. receipt_of x.total ≡ total (file_postings (world L.Line.tariff line B.Book.most) file.now)) }
+    ensures refused { file_outcome_of result ≡ refused_file (world (L.Line.tariff line) B.Book.CAPACITY) file.now }
+    ensures account { IfOk result (λ x. Some (account_of B.Book.means x.account) ≡ file_closing (world (L.Line.tariff line) B.Book.CAPACITY) file.now) }
+    ensures total { IfOk result (λ x. receipt_of x.total ≡ total (file_postings (world (L.Line.tariff line) B.Book.CAPACITY) file.now)) }
     ensures line { IfOk result (λ x. x.account.line ≡ line) }
-    ensures law { IfOk result (λ x. LawOfFile (world L.Line.tariff line B.Book.most) file.now (file_postings (world L.Line.tariff line B.Book.most) file.now) (account_of B.Book.means x.account)) }
+    ensures law { IfOk result (λ x. LawOfFile (world (L.Line.tariff line) B.Book.CAPACITY) file.now (file_postings (world (L.Line.tariff line) B.Book.CAPACITY) file.now) (account_of B.Book.means x.account)) }
 {
     let mut totals = Totals::nothing();
     let account = post_file(file, line, books, &mut totals)?;

@@ -10,4 +10,4 @@ use Rattle.account.proofs.perform.enter.Goals as goal
 pub leave_plan-left-requires : goal.leave_plan-left-requires
 leave_plan-left-requires g c =
     let e = entry_of c.args.entry in
-    ap (λ (o : Out). leave_concern g.B.Book.most (new_due gregorian c.args.day.day.0) e o.state) c.pay_entry-paid.ensures.does ∙ c.requires
+    ap (λ (o : Out). leave_concern g.B.Book.CAPACITY (new_due gregorian c.args.day.day.0) e o.state) c.pay_entry-paid.ensures.does ∙ c.requires

@@ -16,7 +16,7 @@ pub returns-in_err-life : goal.returns-in_err-life
 returns-in_err-life g c =
     let p = err_from_is_err_and c.from_residual.result c.from_residual.ensures.1 in
     let f = c.in_err-life.field-0.0 in
-    let w = three_lines g.B.Book.most in
+    let w = three_lines g.B.Book.CAPACITY in
     rw (p.1, p.2)
     record {
       answer = told_number f ∙ totals_told w c.args.file.now (length c.args.out.now) (Some (file_refusal_of f)) (omega arith) c.in_err-life.ensures.refused;
@@ -25,7 +25,7 @@ returns-in_err-life g c =
 
 pub returns : goal.returns
 returns g c =
-    let w = three_lines g.B.Book.most in
+    let w = three_lines g.B.Book.CAPACITY in
     let file = c.args.file.now in
     let out = c.args.out.now in
     let told = c.in_ok-life.ensures in

@@ -25,7 +25,7 @@ returns-in_err-post_file g c =
 
 pub returns : goal.returns
 returns g c =
-    let w = three_lines g.B.Book.most in
+    let w = three_lines g.B.Book.CAPACITY in
     let file = c.args.file.now in
     let rows = c.args.rows.now in
     let ps = file_postings w file in

@@ -6,7 +6,7 @@ use Rattle.charging.proofs.postings.write_postings.Goals as goal
 
 pub returns : goal.returns
 returns g c =
-    let w = three_lines g.B.Book.most in
+    let w = three_lines g.B.Book.CAPACITY in
     let trailer = c.in_ok-trailer.ensures in
     record {
       answer = c.run_onto.ensures.answer ∙ postings-told w c.args.file.now (length c.args.out.now) trailer.right (omega (arith, trailer.value));

@@ -12,15 +12,14 @@ use Rattle.event_run.proofs.run.post_all.Goals as goal
 pub loop-part-preserved : goal.loop-part-preserved
 loop-part-preserved g c =
     let means = g.B.Book.means in
-    let on = world g.L.Line.tariff in
-    let w = on c.args.account.now.line g.B.Book.most in
+    let w = world (g.L.Line.tariff c.args.account.now.line) g.B.Book.CAPACITY in
     let a = account_of means c.loop-part.account in
     let b = account_of means c.post-posted.new.account in
     let p = placed c.in-Some.part in
     let before = coming c.loop-part.records in
     let after = coming c.next_part.new.self in
     let (whole, end, line) = c.loop-part.invariant in
-    let here = ap (λ l. answer_at (on l g.B.Book.most) a p) line in
+    let here = ap (λ l. answer_at (world (g.L.Line.tariff l) g.B.Book.CAPACITY) a p) line in
     let next = c.post-posted.ensures.account ∙ ap (λ (x : Answer). x.account) here in
     let is = c.post-posted.ensures.posted ∙ ap (posting p) here in
     let at = c.in-Some.ensures.part in

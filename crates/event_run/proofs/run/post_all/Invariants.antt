@@ -8,7 +8,7 @@ use Rattle.event_run.proofs.run.post_all.Given as goal
 
 abbrev pub invariant-loop-part : goal.invariant-loop-part
 invariant-loop-part g l =
-    let w = world g.L.Line.tariff l.initial.account.line g.B.Book.most in
+    let w = world (g.L.Line.tariff l.initial.account.line) g.B.Book.CAPACITY in
     let means = g.B.Book.means in
     let first = account_of means l.initial.account in
     let here = account_of means l.account in

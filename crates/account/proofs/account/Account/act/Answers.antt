@@ -9,12 +9,12 @@ use Rattle.account.proofs.account.Account.act.Goals as goal
 pub returns : goal.returns
 returns g c =
     let a = c.args.self.now in
-    let w = world g.L.Line.tariff a.line g.B.Book.most in
+    let w = world (g.L.Line.tariff a.line) g.B.Book.CAPACITY in
     let told = c.make.ensures in
     record {
       does = told.does;
       line = told.line;
       same = told.same;
       columns = subst (ColumnsWithin most_column) (sym (ap (λ (x : Answer). x.receipt) told.does))
-          (columns_of g.B.Book.means g.B.Book.most g.met.B.Book.kept w hundred_years c.args.event a);
+          (columns_of g.B.Book.means g.B.Book.CAPACITY g.met.B.Book.kept w hundred_years c.args.event a);
     }

@@ -1,6 +1,7 @@
 -- What a call did is what the rules say, accepted or refused.
 use Rattle.std.proofs.Common.{ℕ, ◌^◌, cond, sym, refl, ap, ◌∙◌, arith}
 use Rattle.std.proofs.lemmas.Result.{err_from_is_err_and}
+use Rattle.quantities.proofs.Order.{not_before}
 use Rattle.receipt.specs.Columns.{receipt_of}
 use Rattle.fault.specs.Faults.{refusal_of}
 use Rattle.rules.specs.State.{Out}
@@ -16,10 +17,10 @@ returns-in_err-judge g c =
     let p = err_from_is_err_and c.from_residual.result c.from_residual.ensures.1 in
     let a = c.args.self.now in
     let e = c.args.event in
-    let w = world g.L.Line.tariff a.line g.B.Book.most in
+    let w = world (g.L.Line.tariff a.line) g.B.Book.CAPACITY in
     let s = account_of g.B.Book.means a in
     let (soon, on) = c.in-Some.ensures in
-    let told = in_time w s e c.in-Some.day.day.0 on soon c.if-event-self.false ∙ sym c.in_err-judge.ensures.told in
+    let told = in_time w s e c.in-Some.day.day.0 on soon (not_before _ _ c.if-lt.ensures) ∙ sym c.in_err-judge.ensures.told in
     rw (p.1, p.2)
     record {
       does = refused-from w s e (refusal_of c.in_err-judge.field-0.0) (receipt_of c.nothing.result) told c.nothing.ensures;
@@ -30,7 +31,7 @@ returns-in_err-judge g c =
 pub perform-done-requires : goal.perform-done-requires
 perform-done-requires g c =
     let brought = ap (λ (o : Out). o.state) c.bring_up-brought.ensures.does in
-    let w = world g.L.Line.tariff c.args.self.now.line g.B.Book.most in
+    let w = world (g.L.Line.tariff c.args.self.now.line) g.B.Book.CAPACITY in
     ap (λ x. first_refusal (checks w c.in-Some.day.day.0 c.args.event.call x)) brought ∙ sym c.in_ok-judge.ensures.told
 
 pub returns : goal.returns
@@ -38,12 +39,12 @@ returns g c =
     let means = g.B.Book.means in
     let a = c.args.self.now in
     let e = c.args.event in
-    let w = world g.L.Line.tariff a.line g.B.Book.most in
+    let w = world (g.L.Line.tariff a.line) g.B.Book.CAPACITY in
     let s = account_of means a in
     let (soon, on) = c.in-Some.ensures in
     let D = c.in-Some.day.day.0 in
-    let told = in_time w s e D on soon c.if-event-self.false ∙ sym c.in_ok-judge.ensures.told in
-    let t = state_of means c.bring_up-brought.new.ledger in
+    let told = in_time w s e D on soon (not_before _ _ c.if-lt.ensures) ∙ sym c.in_ok-judge.ensures.told in
+    let t = state_of means c.bring_up-brought.new.self in
     let u = state_of means c.perform-done.new.ledger in
     let p = receipt_of c.bring_up-brought.result in
     let q = receipt_of c.perform-done.result in
