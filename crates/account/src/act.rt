@@ -1,10 +1,10 @@
 // One call, from its moment to its receipt.
 ghost use Rattle.std.specs.Prelude.{◌≡◌, false, is_ok};
 ghost use Rattle.rules.specs.Runs.{step};
-ghost use Rattle.rules.specs.Bounds.{most_column, ColumnsWithin};
 ghost use Rattle.receipt.specs.Columns.{receipt_of};
 ghost use Rattle.fault.specs.Faults.{outcome_of};
 ghost use Rattle.account.specs.Meaning.{account_of, world, answer};
+ghost use Rattle.account.specs.Step.{OneStep};
 
 use crate::account::Account;
 use crate::judge::judge;
@@ -39,10 +39,7 @@ impl<L: Line, B: Book> Account<L, B> {
 
     // Any call, by its event. The receipt is set whole, whatever it held, each column within its bound.
     pub fn act(&mut self, event: Event, receipt: &mut Receipt) -> Result<(), Fault>
-        ensures does { answer (outcome_of result) (account_of B.Book.means self.new) (receipt_of receipt.new) ≡ step (world (L.Line.tariff self.old.line) B.Book.CAPACITY) (account_of B.Book.means self.old) event }
-        ensures line { self.new.line ≡ self.old.line }
-        ensures same { is_ok result ≡ false → self.new ≡ self.old }
-        ensures columns { ColumnsWithin most_column (receipt_of receipt.new) }
+        ensures { OneStep L.Line.tariff B.Book.means B.Book.CAPACITY self.old event result self.new receipt.new }
     {
         self.make(event, receipt)
     }

@@ -1,11 +1,6 @@
 // The calls on an account. Each sets the whole receipt that its host lends, whatever it held.
-ghost use Rattle.std.specs.Prelude.{◌≡◌, false, is_ok};
-ghost use Rattle.rules.specs.Runs.{step};
-ghost use Rattle.rules.specs.Bounds.{most_column, ColumnsWithin};
 ghost use Rattle.rules.specs.declared.call.Call.TheVariants.{TopUp as top_up_call, Use as use_call, Restart as restart_call, Switch as switch_call, MegabyteOption as option_call, DayMark as day_mark_call};
-ghost use Rattle.receipt.specs.Columns.{receipt_of};
-ghost use Rattle.fault.specs.Faults.{outcome_of};
-ghost use Rattle.account.specs.Meaning.{account_of, world, answer};
+ghost use Rattle.account.specs.Step.{OneStep};
 
 use crate::account::Account;
 use book::meaning::Book;
@@ -20,10 +15,7 @@ use tariff::terms::PlanCode;
 impl<L: Line, B: Book> Account<L, B> {
     // Adds to the balance; a blocked account whose balance then reaches the fee starts on that day.
     pub fn top_up(&mut self, moment: Moment, sums: Sums, receipt: &mut Receipt) -> Result<(), Fault>
-        ensures does { answer (outcome_of result) (account_of B.Book.means self.new) (receipt_of receipt.new) ≡ step (world (L.Line.tariff self.old.line) B.Book.CAPACITY) (account_of B.Book.means self.old) (record { moment = moment; call = top_up_call sums }) }
-        ensures line { self.new.line ≡ self.old.line }
-        ensures same { is_ok result ≡ false → self.new ≡ self.old }
-        ensures columns { ColumnsWithin most_column (receipt_of receipt.new) }
+        ensures { OneStep L.Line.tariff B.Book.means B.Book.CAPACITY self.old (record { moment = moment; call = top_up_call sums }) result self.new receipt.new }
     {
         let call = Call::TopUp(sums);
         self.act(Event { moment, call }, receipt)
@@ -37,10 +29,7 @@ impl<L: Line, B: Book> Account<L, B> {
         n: u32,
         receipt: &mut Receipt,
     ) -> Result<(), Fault>
-        ensures does { answer (outcome_of result) (account_of B.Book.means self.new) (receipt_of receipt.new) ≡ step (world (L.Line.tariff self.old.line) B.Book.CAPACITY) (account_of B.Book.means self.old) (record { moment = moment; call = use_call service n }) }
-        ensures line { self.new.line ≡ self.old.line }
-        ensures same { is_ok result ≡ false → self.new ≡ self.old }
-        ensures columns { ColumnsWithin most_column (receipt_of receipt.new) }
+        ensures { OneStep L.Line.tariff B.Book.means B.Book.CAPACITY self.old (record { moment = moment; call = use_call service n }) result self.new receipt.new }
     {
         let call = Call::Use(service, n);
         self.act(Event { moment, call }, receipt)
@@ -48,10 +37,7 @@ impl<L: Line, B: Book> Account<L, B> {
 
     // Ends the month early: the fee is taken on the day, which becomes the anchor.
     pub fn restart(&mut self, moment: Moment, receipt: &mut Receipt) -> Result<(), Fault>
-        ensures does { answer (outcome_of result) (account_of B.Book.means self.new) (receipt_of receipt.new) ≡ step (world (L.Line.tariff self.old.line) B.Book.CAPACITY) (account_of B.Book.means self.old) (record { moment = moment; call = restart_call }) }
-        ensures line { self.new.line ≡ self.old.line }
-        ensures same { is_ok result ≡ false → self.new ≡ self.old }
-        ensures columns { ColumnsWithin most_column (receipt_of receipt.new) }
+        ensures { OneStep L.Line.tariff B.Book.means B.Book.CAPACITY self.old (record { moment = moment; call = restart_call }) result self.new receipt.new }
     {
         let call = Call::Restart;
         self.act(Event { moment, call }, receipt)
@@ -64,10 +50,7 @@ impl<L: Line, B: Book> Account<L, B> {
         plan: PlanCode,
         receipt: &mut Receipt,
     ) -> Result<(), Fault>
-        ensures does { answer (outcome_of result) (account_of B.Book.means self.new) (receipt_of receipt.new) ≡ step (world (L.Line.tariff self.old.line) B.Book.CAPACITY) (account_of B.Book.means self.old) (record { moment = moment; call = switch_call plan }) }
-        ensures line { self.new.line ≡ self.old.line }
-        ensures same { is_ok result ≡ false → self.new ≡ self.old }
-        ensures columns { ColumnsWithin most_column (receipt_of receipt.new) }
+        ensures { OneStep L.Line.tariff B.Book.means B.Book.CAPACITY self.old (record { moment = moment; call = switch_call plan }) result self.new receipt.new }
     {
         let call = Call::Switch(plan);
         self.act(Event { moment, call }, receipt)
@@ -75,10 +58,7 @@ impl<L: Line, B: Book> Account<L, B> {
 
     // Lets megabytes run past the allowance until the next fee.
     pub fn turn_on_option(&mut self, moment: Moment, receipt: &mut Receipt) -> Result<(), Fault>
-        ensures does { answer (outcome_of result) (account_of B.Book.means self.new) (receipt_of receipt.new) ≡ step (world (L.Line.tariff self.old.line) B.Book.CAPACITY) (account_of B.Book.means self.old) (record { moment = moment; call = option_call }) }
-        ensures line { self.new.line ≡ self.old.line }
-        ensures same { is_ok result ≡ false → self.new ≡ self.old }
-        ensures columns { ColumnsWithin most_column (receipt_of receipt.new) }
+        ensures { OneStep L.Line.tariff B.Book.means B.Book.CAPACITY self.old (record { moment = moment; call = option_call }) result self.new receipt.new }
     {
         let call = Call::MegabyteOption;
         self.act(Event { moment, call }, receipt)
@@ -86,10 +66,7 @@ impl<L: Line, B: Book> Account<L, B> {
 
     // A day mark: only brings the account up to its day.
     pub fn mark_day(&mut self, moment: Moment, receipt: &mut Receipt) -> Result<(), Fault>
-        ensures does { answer (outcome_of result) (account_of B.Book.means self.new) (receipt_of receipt.new) ≡ step (world (L.Line.tariff self.old.line) B.Book.CAPACITY) (account_of B.Book.means self.old) (record { moment = moment; call = day_mark_call }) }
-        ensures line { self.new.line ≡ self.old.line }
-        ensures same { is_ok result ≡ false → self.new ≡ self.old }
-        ensures columns { ColumnsWithin most_column (receipt_of receipt.new) }
+        ensures { OneStep L.Line.tariff B.Book.means B.Book.CAPACITY self.old (record { moment = moment; call = day_mark_call }) result self.new receipt.new }
     {
         let call = Call::DayMark;
         self.act(Event { moment, call }, receipt)

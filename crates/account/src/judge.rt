@@ -1,7 +1,9 @@
 // Whether a call is refused, and why. Judging reads only.
 ghost use Rattle.std.specs.Prelude.{◌≡◌, ◌+◌, ◌-◌, ◌*◌, ◌≤◌, []};
 ghost use Rattle.quantities.specs.Limits.{most_grant};
+ghost use Rattle.tariff.specs.Terms.{Tariff};
 ghost use Rattle.book.specs.Allowance.{left, lapsed};
+ghost use Rattle.rules.specs.State.{World};
 ghost use Rattle.rules.specs.DueDays.{lapse_all, bring_up};
 ghost use Rattle.rules.specs.Calls.{charge as use_charge};
 ghost use Rattle.rules.specs.Checks.{has_service, runs_past, is_on, first_refusal, checks};
@@ -11,6 +13,7 @@ ghost use Rattle.ledger.specs.Meaning.{state_of};
 ghost use Rattle.small_book.specs.Meaning.{meaning};
 ghost use Rattle.fault.specs.Faults.{outcome_of};
 ghost use Rattle.rules.specs.Ahead.{stripped};
+ghost use Rattle.account.specs.Judging.{refusal_after_lapse};
 ghost use Rattle.account.specs.Meaning.{world};
 
 use crate::keeping::judge_books;
@@ -84,13 +87,9 @@ fn runs_past<B: Book>(ledger: &Ledger<B>, day: Day, service: Option<Service>, n:
     }
 }
 
-fn judge_top_up<L: Line, B: Book>(
-    ledger: &Ledger<B>,
-    line: &L,
-    day: CallDay,
-    sums: Sums,
-) -> Result<(), Fault>
-    ensures told { outcome_of result ≡ first_refusal (checks (world (L.Line.tariff line.now) B.Book.CAPACITY) day.day.0 (top_up_call sums) (lapse_all day.day.0 (state_of B.Book.means ledger.now)).state) }
+// A top-up is judged alike on every line.
+fn judge_top_up<B: Book>(ledger: &Ledger<B>, day: CallDay, sums: Sums) -> Result<(), Fault>
+    ensures told { (w : World) → outcome_of result ≡ refusal_after_lapse w day.day.0 (top_up_call sums) (state_of B.Book.means ledger.now) }
 {
     if sums.0 < 1 || sums.0 > MOST_TOP_UP {
         return Err(Fault::AmountOutOfRange);
@@ -101,14 +100,14 @@ fn judge_top_up<L: Line, B: Book>(
     Ok(())
 }
 
-fn judge_use<L: Line, B: Book>(
+// So is a use.
+fn judge_use<B: Book>(
     ledger: &Ledger<B>,
-    line: &L,
     day: CallDay,
     service: Option<Service>,
     n: u32,
 ) -> Result<(), Fault>
-    ensures told { outcome_of result ≡ first_refusal (checks (world (L.Line.tariff line.now) B.Book.CAPACITY) day.day.0 (use_call service n) (lapse_all day.day.0 (state_of B.Book.means ledger.now)).state) }
+    ensures told { (w : World) → outcome_of result ≡ refusal_after_lapse w day.day.0 (use_call service n) (state_of B.Book.means ledger.now) }
 {
     if n < 1 || n > MOST_USE {
         return Err(Fault::AmountOutOfRange);
@@ -134,8 +133,9 @@ fn fee_taken_on<B: Book>(ledger: &Ledger<B>, day: Day) -> bool
     ledger.last_fee == Some(day)
 }
 
-fn judge_restart<L: Line, B: Book>(ledger: &Ledger<B>, line: &L, day: CallDay) -> Result<(), Fault>
-    ensures told { outcome_of result ≡ first_refusal (checks (world (L.Line.tariff line.now) B.Book.CAPACITY) day.day.0 restart_call (lapse_all day.day.0 (state_of B.Book.means ledger.now)).state) }
+// So is a Restart, but for the room that the books have.
+fn judge_restart<B: Book>(ledger: &Ledger<B>, day: CallDay) -> Result<(), Fault>
+    ensures told { (t : Tariff) → outcome_of result ≡ refusal_after_lapse (world t B.Book.CAPACITY) day.day.0 restart_call (state_of B.Book.means ledger.now) }
 {
     let Status::Active(due) = ledger.status else {
         return Err(Fault::Blocked);
@@ -155,7 +155,7 @@ fn judge_switch<L: Line, B: Book>(
     day: CallDay,
     code: PlanCode,
 ) -> Result<(), Fault>
-    ensures told { outcome_of result ≡ first_refusal (checks (world (L.Line.tariff line.now) B.Book.CAPACITY) day.day.0 (switch_call code) (lapse_all day.day.0 (state_of B.Book.means ledger.now)).state) }
+    ensures told { outcome_of result ≡ refusal_after_lapse (world (L.Line.tariff line.now) B.Book.CAPACITY) day.day.0 (switch_call code) (state_of B.Book.means ledger.now) }
 {
     let Some(terms) = line.terms(code) else {
         return Err(Fault::NoTerms);
@@ -179,12 +179,12 @@ fn judge_at<L: Line, B: Book>(
     day: CallDay,
     call: Call,
 ) -> Result<(), Fault>
-    ensures told { outcome_of result ≡ first_refusal (checks (world (L.Line.tariff line.now) B.Book.CAPACITY) day.day.0 call (lapse_all day.day.0 (state_of B.Book.means ledger.now)).state) }
+    ensures told { outcome_of result ≡ refusal_after_lapse (world (L.Line.tariff line.now) B.Book.CAPACITY) day.day.0 call (state_of B.Book.means ledger.now) }
 {
     match (ledger.status, call) {
-        (_, Call::TopUp(sums)) => judge_top_up(ledger, line, day, sums),
-        (_, Call::Use(service, n)) => judge_use(ledger, line, day, service, n),
-        (_, Call::Restart) => judge_restart(ledger, line, day),
+        (_, Call::TopUp(sums)) => judge_top_up(ledger, day, sums),
+        (_, Call::Use(service, n)) => judge_use(ledger, day, service, n),
+        (_, Call::Restart) => judge_restart(ledger, day),
         (_, Call::Switch(code)) => judge_switch(ledger, line, day, code),
         (Status::Blocked, Call::MegabyteOption) => Err(Fault::Blocked),
         (Status::Active(_), Call::MegabyteOption) => Ok(()),
