@@ -1,11 +1,11 @@
 -- What the answer of an opening means.
 use Rattle.std.specs.Prelude.{◌≡◌, Some, None, Ok, Err, Option, Result}
-use Rattle.quantities.specs.declared.unit.PerUnit.{PerUnit}
 use Rattle.book.specs.Allowance.{Allowance}
 use Rattle.rules.specs.State.{Account as Meant}
 use Rattle.rules.specs.Checks.{Refusal}
 use Rattle.fault.specs.Faults.{refusal_of}
 use Rattle.account.specs.declared.account.Account.{Account}
+use Rattle.account.specs.declared.provision.Provision.{Provision}
 use Rattle.account.specs.declared.refused.RefusedOpening.{RefusedOpening}
 use Rattle.account.specs.Meaning.{account_of}
 
@@ -18,6 +18,6 @@ account_told means (Ok a) = Some (account_of means a)
 account_told means (Err x) = None
 
 -- an account keeps its line; a refused opening hands line and books back
-abbrev pub Handed : {L B : Type 0} → L → PerUnit B → Result (Account L B) (RefusedOpening L B) → Type 0
-Handed line books (Ok a) = a.line ≡ line
-Handed line books (Err x) = (x.line ≡ line) × (x.books ≡ books)
+abbrev pub Handed : {L B : Type 0} → Provision L B → Result (Account L B) (RefusedOpening L B) → Type 0
+Handed p (Ok a) = a.line ≡ p.line
+Handed p (Err x) = x.provision ≡ p

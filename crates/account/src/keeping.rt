@@ -38,11 +38,14 @@ pub(crate) fn judge_books<B: Book>(
 {
     let books = &ledger.books;
     let cap = new_due(day);
-    let judge = |unit: UnitKind, book: &B, wiped: bool| {
-        judge_book(book, wiped, day.day, end, cap).map_err(|fault| UnitFault { unit, fault })
+    let judge = |unit: UnitKind| {
+        judge_book(books.get(unit), *wiped.get(unit), day.day, end, cap).map_err(|fault| UnitFault {
+            unit,
+            fault,
+        })
     };
-    judge(UnitKind::Minutes, &books.minutes, wiped.minutes)?;
-    judge(UnitKind::Megabytes, &books.megabytes, wiped.megabytes)?;
-    judge(UnitKind::Messages, &books.messages, wiped.messages)?;
+    judge(UnitKind::Minutes)?;
+    judge(UnitKind::Megabytes)?;
+    judge(UnitKind::Messages)?;
     Ok(())
 }

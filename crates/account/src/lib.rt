@@ -9,6 +9,7 @@ mod keeping;
 mod leaving;
 pub mod opening;
 mod perform;
+pub mod provision;
 pub mod questions;
 pub mod refused;
 mod wiping;

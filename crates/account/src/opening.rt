@@ -5,14 +5,13 @@ ghost use Rattle.account.specs.Meaning.{world};
 ghost use Rattle.account.specs.Opening.{refusal_told, account_told, Handed};
 
 use crate::account::Account;
+use crate::provision::Provision;
 use crate::refused::RefusedOpening;
 use book::meaning::Book;
 use fault::account::Fault;
 use ledger::ledger::Ledger;
-use quantities::limits::LAST_MOMENT;
 use quantities::money::{Balance, Sums};
 use quantities::time::Moment;
-use quantities::unit::PerUnit;
 use rules::call::Status;
 use tariff::line::Line;
 use tariff::terms::PlanCode;
@@ -20,24 +19,23 @@ use tariff::terms::PlanCode;
 impl<L: Line, B: Book> Account<L, B> {
     // Opens an account on a plan of the line, blocked and without money. It clears the books and keeps them.
     pub fn open(
-        line: L,
-        books: PerUnit<B>,
+        provision: Provision<L, B>,
         plan: PlanCode,
         moment: Moment,
     ) -> Result<Account<L, B>, RefusedOpening<L, B>>
-        ensures told { refusal_told result ≡ opening_refusal (world (L.Line.tariff line) B.Book.CAPACITY) plan.0 moment.0 }
-        ensures account { account_told B.Book.means result ≡ opening (world (L.Line.tariff line) B.Book.CAPACITY) plan.0 moment.0 }
-        ensures handed { Handed line books result }
+        ensures told { refusal_told result ≡ opening_refusal (world (L.Line.tariff provision.line) B.Book.CAPACITY) plan.0 moment.0 }
+        ensures account { account_told B.Book.means result ≡ opening (world (L.Line.tariff provision.line) B.Book.CAPACITY) plan.0 moment.0 }
+        ensures handed { Handed provision result }
     {
-        if moment.0 > LAST_MOMENT {
+        if moment.call_day().is_none() {
             let fault = Fault::PastLastMoment;
-            return Err(RefusedOpening { fault, line, books });
+            return Err(RefusedOpening { fault, provision });
         }
-        let Some(terms) = line.terms(plan) else {
+        let Some(terms) = provision.line.terms(plan) else {
             let fault = Fault::NoTerms;
-            return Err(RefusedOpening { fault, line, books });
+            return Err(RefusedOpening { fault, provision });
         };
-        let mut books = books;
+        let Provision { line, mut books } = provision;
         let _ = books.minutes.clear();
         let _ = books.megabytes.clear();
         let _ = books.messages.clear();

@@ -49,10 +49,6 @@ impl<L, B: Book> Account<L, B> {
     pub fn units_left(&self, unit: UnitKind) -> u32
         ensures value { result ≡ all_left (of unit (account_of B.Book.means self.now).state.books) }
     {
-        match unit {
-            UnitKind::Minutes => self.ledger.books.minutes.left(),
-            UnitKind::Megabytes => self.ledger.books.megabytes.left(),
-            UnitKind::Messages => self.ledger.books.messages.left(),
-        }
+        self.ledger.books.get(unit).left()
     }
 }

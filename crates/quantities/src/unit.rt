@@ -1,5 +1,6 @@
 // The three units that allowances are counted in.
 ghost use Rattle.std.specs.Prelude.{◌≡◌, ◌+◌, ◌-◌, ◌^◌, min};
+ghost use Rattle.quantities.specs.Units.{of};
 
 use std::fmt;
 use std::marker::PhantomData;
@@ -18,6 +19,19 @@ pub struct PerUnit<T> {
     pub minutes: T,
     pub megabytes: T,
     pub messages: T,
+}
+
+impl<T> PerUnit<T> {
+    // The thing for one unit.
+    pub fn get(&self, unit: UnitKind) -> &T
+        ensures { result.now ≡ of unit self.now }
+    {
+        match unit {
+            UnitKind::Minutes => &self.minutes,
+            UnitKind::Megabytes => &self.megabytes,
+            UnitKind::Messages => &self.messages,
+        }
+    }
 }
 
 // What a count is of: a type each, so that counts of different things never meet.
