@@ -11,11 +11,11 @@ use crate::journal::Journal;
 use crate::post::post;
 use crate::run::open_by;
 use account::account::Account;
+use account::provision::Provision;
 use book::meaning::Book;
 use event_file::file_fault::FileFault;
 use event_file::records::Records;
 use event_file::trailer::Trailer;
-use quantities::unit::PerUnit;
 use tariff::line::Line;
 
 // Posts the records that are still to come, one after another; a refused record doesn't stop it.
@@ -38,18 +38,17 @@ pub fn post_records<L: Line, B: Book, J: Journal>(
 
 fn post_trailed<L: Line + Drop, B: Book + Drop, J: Journal>(
     file: &[u8],
-    line: L,
-    books: PerUnit<B>,
+    provision: Provision<L, B>,
     journal: &mut J,
 ) -> Result<Account<L, B>, FileFault>
-    ensures refused { file_outcome_of result ≡ refused_file (world (L.Line.tariff line) B.Book.CAPACITY) file.now }
-    ensures posted { OnOk result (Taken J.Journal.takes journal.old (file_postings (world (L.Line.tariff line) B.Book.CAPACITY) file.now) journal.new) }
-    ensures account { IfOk result (λ a. Some (account_of B.Book.means a) ≡ file_closing (world (L.Line.tariff line) B.Book.CAPACITY) file.now) }
-    ensures line { IfOk result (λ a. a.line ≡ line) }
+    ensures refused { file_outcome_of result ≡ refused_file (world (L.Line.tariff provision.line) B.Book.CAPACITY) file.now }
+    ensures posted { OnOk result (Taken J.Journal.takes journal.old (file_postings (world (L.Line.tariff provision.line) B.Book.CAPACITY) file.now) journal.new) }
+    ensures account { IfOk result (λ a. Some (account_of B.Book.means a) ≡ file_closing (world (L.Line.tariff provision.line) B.Book.CAPACITY) file.now) }
+    ensures line { IfOk result (λ a. a.line ≡ provision.line) }
     ensures same { OnErr result (journal.new ≡ journal.old) }
 {
     let trailer = Trailer::of(file)?;
-    let mut account = open_by(trailer, line, books)?;
+    let mut account = open_by(trailer, provision)?;
     let mut records = Records::over(file, trailer);
     post_records(&mut account, &mut records, journal);
     Ok(account)
@@ -59,17 +58,16 @@ fn post_trailed<L: Line + Drop, B: Book + Drop, J: Journal>(
 // each is posted to the journal; a refused file or opening posts nothing.
 pub fn post_file<L: Line + Drop, B: Book + Drop, J: Journal>(
     file: &[u8],
-    line: L,
-    books: PerUnit<B>,
+    provision: Provision<L, B>,
     journal: &mut J,
 ) -> Result<Account<L, B>, FileFault>
-    ensures refused { file_outcome_of result ≡ refused_file (world (L.Line.tariff line) B.Book.CAPACITY) file.now }
-    ensures posted { OnOk result (Taken J.Journal.takes journal.old (file_postings (world (L.Line.tariff line) B.Book.CAPACITY) file.now) journal.new) }
-    ensures account { IfOk result (λ a. Some (account_of B.Book.means a) ≡ file_closing (world (L.Line.tariff line) B.Book.CAPACITY) file.now) }
-    ensures line { IfOk result (λ a. a.line ≡ line) }
+    ensures refused { file_outcome_of result ≡ refused_file (world (L.Line.tariff provision.line) B.Book.CAPACITY) file.now }
+    ensures posted { OnOk result (Taken J.Journal.takes journal.old (file_postings (world (L.Line.tariff provision.line) B.Book.CAPACITY) file.now) journal.new) }
+    ensures account { IfOk result (λ a. Some (account_of B.Book.means a) ≡ file_closing (world (L.Line.tariff provision.line) B.Book.CAPACITY) file.now) }
+    ensures line { IfOk result (λ a. a.line ≡ provision.line) }
     ensures same { OnErr result (journal.new ≡ journal.old) }
-    ensures law { IfOk result (λ a. LawOfFile (world (L.Line.tariff line) B.Book.CAPACITY) file.now (file_postings (world (L.Line.tariff line) B.Book.CAPACITY) file.now) (account_of B.Book.means a)) }
+    ensures law { IfOk result (λ a. LawOfFile (world (L.Line.tariff provision.line) B.Book.CAPACITY) file.now (file_postings (world (L.Line.tariff provision.line) B.Book.CAPACITY) file.now) (account_of B.Book.means a)) }
 {
-    let account = post_trailed(file, line, books, journal)?;
+    let account = post_trailed(file, provision, journal)?;
     Ok(account)
 }

@@ -11,11 +11,11 @@ use crate::post::post;
 use crate::posted::Posted;
 use crate::stopped::Stopped;
 use account::account::Account;
+use account::provision::Provision;
 use book::meaning::Book;
 use event_file::file_fault::{FileFault, Place};
 use event_file::records::Records;
 use event_file::trailer::Trailer;
-use quantities::unit::PerUnit;
 use std::alloc::Global;
 use tariff::line::Line;
 
@@ -50,14 +50,13 @@ pub struct Run<L, B> {
 // Opens the account that a trailer names. A refused opening lets the line and the books go.
 pub(crate) fn open_by<L: Line + Drop, B: Book + Drop>(
     trailer: Trailer,
-    line: L,
-    books: PerUnit<B>,
+    provision: Provision<L, B>,
 ) -> Result<Account<L, B>, FileFault>
-    ensures told { file_outcome_of result ≡ placed_outcome (opening_refusal (world (L.Line.tariff line) B.Book.CAPACITY) trailer.plan.0 trailer.moment.0) no_place }
-    ensures account { IfOk result (λ a. Some (account_of B.Book.means a) ≡ opening (world (L.Line.tariff line) B.Book.CAPACITY) trailer.plan.0 trailer.moment.0) }
-    ensures line { IfOk result (λ a. a.line ≡ line) }
+    ensures told { file_outcome_of result ≡ placed_outcome (opening_refusal (world (L.Line.tariff provision.line) B.Book.CAPACITY) trailer.plan.0 trailer.moment.0) no_place }
+    ensures account { IfOk result (λ a. Some (account_of B.Book.means a) ≡ opening (world (L.Line.tariff provision.line) B.Book.CAPACITY) trailer.plan.0 trailer.moment.0) }
+    ensures line { IfOk result (λ a. a.line ≡ provision.line) }
 {
-    match Account::open(line, books, trailer.plan, trailer.moment) {
+    match Account::open(provision, trailer.plan, trailer.moment) {
         Ok(account) => Ok(account),
         Err(refused) => {
             let place = Place {
@@ -72,16 +71,15 @@ pub(crate) fn open_by<L: Line + Drop, B: Book + Drop>(
 fn run_records<L: Line + Drop, B: Book + Drop>(
     heap: Global,
     file: &[u8],
-    line: L,
-    books: PerUnit<B>,
+    provision: Provision<L, B>,
 ) -> Result<Run<L, B>, Stopped>
-    ensures refused { file_refusal_told result ≡ refused_file (world (L.Line.tariff line) B.Book.CAPACITY) file.now }
-    ensures posted { IfOk result (λ x. map posting_of x.posted.items ≡ file_postings (world (L.Line.tariff line) B.Book.CAPACITY) file.now) }
-    ensures account { IfOk result (λ x. Some (account_of B.Book.means x.account) ≡ file_closing (world (L.Line.tariff line) B.Book.CAPACITY) file.now) }
-    ensures line { IfOk result (λ x. x.account.line ≡ line) }
+    ensures refused { file_refusal_told result ≡ refused_file (world (L.Line.tariff provision.line) B.Book.CAPACITY) file.now }
+    ensures posted { IfOk result (λ x. map posting_of x.posted.items ≡ file_postings (world (L.Line.tariff provision.line) B.Book.CAPACITY) file.now) }
+    ensures account { IfOk result (λ x. Some (account_of B.Book.means x.account) ≡ file_closing (world (L.Line.tariff provision.line) B.Book.CAPACITY) file.now) }
+    ensures line { IfOk result (λ x. x.account.line ≡ provision.line) }
 {
     let trailer = Trailer::of(file)?;
-    let mut account = open_by(trailer, line, books)?;
+    let mut account = open_by(trailer, provision)?;
     let mut records = Records::over(file, trailer);
     let posted = post_all(heap, &mut account, &mut records)?;
     Ok(Run { account, posted })
@@ -91,15 +89,14 @@ fn run_records<L: Line + Drop, B: Book + Drop>(
 pub fn run_file<L: Line + Drop, B: Book + Drop>(
     heap: Global,
     file: &[u8],
-    line: L,
-    books: PerUnit<B>,
+    provision: Provision<L, B>,
 ) -> Result<Run<L, B>, Stopped>
-    ensures refused { file_refusal_told result ≡ refused_file (world (L.Line.tariff line) B.Book.CAPACITY) file.now }
-    ensures posted { IfOk result (λ x. map posting_of x.posted.items ≡ file_postings (world (L.Line.tariff line) B.Book.CAPACITY) file.now) }
-    ensures account { IfOk result (λ x. Some (account_of B.Book.means x.account) ≡ file_closing (world (L.Line.tariff line) B.Book.CAPACITY) file.now) }
-    ensures line { IfOk result (λ x. x.account.line ≡ line) }
-    ensures law { IfOk result (λ x. LawOfFile (world (L.Line.tariff line) B.Book.CAPACITY) file.now (map posting_of x.posted.items) (account_of B.Book.means x.account)) }
+    ensures refused { file_refusal_told result ≡ refused_file (world (L.Line.tariff provision.line) B.Book.CAPACITY) file.now }
+    ensures posted { IfOk result (λ x. map posting_of x.posted.items ≡ file_postings (world (L.Line.tariff provision.line) B.Book.CAPACITY) file.now) }
+    ensures account { IfOk result (λ x. Some (account_of B.Book.means x.account) ≡ file_closing (world (L.Line.tariff provision.line) B.Book.CAPACITY) file.now) }
+    ensures line { IfOk result (λ x. x.account.line ≡ provision.line) }
+    ensures law { IfOk result (λ x. LawOfFile (world (L.Line.tariff provision.line) B.Book.CAPACITY) file.now (map posting_of x.posted.items) (account_of B.Book.means x.account)) }
 {
-    let run = run_records(heap, file, line, books)?;
+    let run = run_records(heap, file, provision)?;
     Ok(run)
 }

@@ -7,10 +7,10 @@ ghost use Rattle.statement_file.specs.Untold.{Untold};
 ghost use Rattle.statement_file.specs.declared.statement.NoStatement.TheVariants as no_statement;
 
 use crate::lines::posting_lines;
+use account::provision::Provision;
 use book::meaning::Book;
 use event_run::run::run_file;
 use event_run::stopped::Stopped;
-use quantities::unit::PerUnit;
 use statement_text::line::{last_line, refused_line};
 use std::alloc::{AllocError, Global};
 use tariff::line::Line;
@@ -34,13 +34,12 @@ impl From<AllocError> for NoStatement {
 fn written<L: Line + Drop, B: Book + Drop>(
     heap: Global,
     file: &[u8],
-    line: L,
-    books: PerUnit<B>,
+    provision: Provision<L, B>,
 ) -> Result<String, NoStatement>
-    ensures text { IfOk result (λ s. text_of_statement (world (L.Line.tariff line) B.Book.CAPACITY) file.now ≡ Some (string_bytes s)) }
-    ensures untold { IfErr result (Untold (world (L.Line.tariff line) B.Book.CAPACITY) file.now) }
+    ensures text { IfOk result (λ s. text_of_statement (world (L.Line.tariff provision.line) B.Book.CAPACITY) file.now ≡ Some (string_bytes s)) }
+    ensures untold { IfErr result (Untold (world (L.Line.tariff provision.line) B.Book.CAPACITY) file.now) }
 {
-    match run_file(heap, file, line, books) {
+    match run_file(heap, file, provision) {
         Ok(run) => {
             let mut text = posting_lines(heap, &run.posted)?;
             let Some(last) = last_line(heap, run.account.status())? else {
@@ -58,12 +57,11 @@ fn written<L: Line + Drop, B: Book + Drop>(
 pub fn statement<L: Line + Drop, B: Book + Drop>(
     heap: Global,
     file: &[u8],
-    line: L,
-    books: PerUnit<B>,
+    provision: Provision<L, B>,
 ) -> Result<String, NoStatement>
-    ensures text { IfOk result (λ s. text_of_statement (world (L.Line.tariff line) B.Book.CAPACITY) file.now ≡ Some (string_bytes s)) }
-    ensures untold { IfErr result (Untold (world (L.Line.tariff line) B.Book.CAPACITY) file.now) }
-    ensures law { ObeysLaw (world (L.Line.tariff line) B.Book.CAPACITY) file.now }
+    ensures text { IfOk result (λ s. text_of_statement (world (L.Line.tariff provision.line) B.Book.CAPACITY) file.now ≡ Some (string_bytes s)) }
+    ensures untold { IfErr result (Untold (world (L.Line.tariff provision.line) B.Book.CAPACITY) file.now) }
+    ensures law { ObeysLaw (world (L.Line.tariff provision.line) B.Book.CAPACITY) file.now }
 {
-    written(heap, file, line, books)
+    written(heap, file, provision)
 }

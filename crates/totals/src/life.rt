@@ -8,10 +8,10 @@ ghost use Rattle.event_run.specs.FileLaw.{total, LawOfFile};
 
 use crate::totals::Totals;
 use account::account::Account;
+use account::provision::Provision;
 use book::meaning::Book;
 use event_file::file_fault::FileFault;
 use event_run::journal_run::post_file;
-use quantities::unit::PerUnit;
 use receipt::receipt::Receipt;
 use tariff::line::Line;
 
@@ -25,17 +25,16 @@ pub struct Life<L, B> {
 // The life that an event file tells, on the line and with the books.
 pub fn life_of_file<L: Line + Drop, B: Book + Drop>(
     file: &[u8],
-    line: L,
-    books: PerUnit<B>,
+    provision: Provision<L, B>,
 ) -> Result<Life<L, B>, FileFault>
-    ensures refused { file_outcome_of result ≡ refused_file (world (L.Line.tariff line) B.Book.CAPACITY) file.now }
-    ensures account { IfOk result (λ x. Some (account_of B.Book.means x.account) ≡ file_closing (world (L.Line.tariff line) B.Book.CAPACITY) file.now) }
-    ensures total { IfOk result (λ x. receipt_of x.total ≡ total (file_postings (world (L.Line.tariff line) B.Book.CAPACITY) file.now)) }
-    ensures line { IfOk result (λ x. x.account.line ≡ line) }
-    ensures law { IfOk result (λ x. LawOfFile (world (L.Line.tariff line) B.Book.CAPACITY) file.now (file_postings (world (L.Line.tariff line) B.Book.CAPACITY) file.now) (account_of B.Book.means x.account)) }
+    ensures refused { file_outcome_of result ≡ refused_file (world (L.Line.tariff provision.line) B.Book.CAPACITY) file.now }
+    ensures account { IfOk result (λ x. Some (account_of B.Book.means x.account) ≡ file_closing (world (L.Line.tariff provision.line) B.Book.CAPACITY) file.now) }
+    ensures total { IfOk result (λ x. receipt_of x.total ≡ total (file_postings (world (L.Line.tariff provision.line) B.Book.CAPACITY) file.now)) }
+    ensures line { IfOk result (λ x. x.account.line ≡ provision.line) }
+    ensures law { IfOk result (λ x. LawOfFile (world (L.Line.tariff provision.line) B.Book.CAPACITY) file.now (file_postings (world (L.Line.tariff provision.line) B.Book.CAPACITY) file.now) (account_of B.Book.means x.account)) }
 {
     let mut totals = Totals::nothing();
-    let account = post_file(file, line, books, &mut totals)?;
+    let account = post_file(file, provision, &mut totals)?;
     Ok(Life {
         account,
         total: totals.receipt,

@@ -7,7 +7,7 @@ use Rattle.event_run.proofs.run.run_file.Goals as goal
 
 pub returns : goal.returns
 returns g c =
-    let w = world (g.L.Line.tariff c.args.line) g.B.Book.CAPACITY in
+    let w = world (g.L.Line.tariff c.args.provision.line) g.B.Book.CAPACITY in
     let told = c.in_ok-run.ensures in
     let run = c.in_ok-run.run' in
     record {

@@ -5,5 +5,5 @@ use Rattle.statement_file.proofs.statement.statement.Goals as goal
 
 pub returns : goal.returns
 returns g c =
-    let w = world (g.L.Line.tariff c.args.line) g.B.Book.CAPACITY in
+    let w = world (g.L.Line.tariff c.args.provision.line) g.B.Book.CAPACITY in
     record { text = c.written.ensures.text; untold = c.written.ensures.untold; law = obeys_law w c.args.file.now }

@@ -6,7 +6,7 @@ use Rattle.totals.proofs.life.life_of_file.Goals as goal
 
 pub returns : goal.returns
 returns g c =
-    let w = world (g.L.Line.tariff c.args.line) g.B.Book.CAPACITY in
+    let w = world (g.L.Line.tariff c.args.provision.line) g.B.Book.CAPACITY in
     let file = c.args.file.now in
     let told = c.in_ok-account.ensures in
     record {
