@@ -31,7 +31,7 @@ fn named(name: u32) -> Fee
     ensures value { result.sums.0 ≡ name * 1_000 }
 {
     Fee {
-        sums: Sums(name as u64 * 1_000),
+        sums: Sums(u64::from(name) * 1_000),
     }
 }
 
@@ -53,9 +53,7 @@ fn missing<K>(wiped_by_restart: bool) -> UnitTerms<K>
 {
     UnitTerms {
         offered: false,
-        amount: Count::new(0),
-        beyond: Price::new(0),
-        wiped_by_restart,
+        ..offered(0, 0, wiped_by_restart)
     }
 }
 

@@ -3,7 +3,7 @@ ghost use Rattle.rules.specs.Gregorian.{gregorian};
 ghost use Rattle.rules.specs.Bounds.{BalanceBounded, BlockedEmpty, DueDayAhead, DuesEnd, DueDaysBounded, FeesGrantInFull, HundredYears, ColumnsBounded};
 
 // The bounds of every account and receipt that calls lead to from a new account hold.
-pub fn bounds_stand() -> u8
+pub fn bounds_stand()
     ensures balance { BalanceBounded }
     ensures blocked { BlockedEmpty }
     ensures due { DueDayAhead }
@@ -12,6 +12,4 @@ pub fn bounds_stand() -> u8
     ensures grants { FeesGrantInFull }
     ensures columns { ColumnsBounded }
     ensures years { HundredYears gregorian }
-{
-    0
-}
+{}

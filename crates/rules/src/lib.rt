@@ -8,12 +8,10 @@ pub mod call;
 pub mod worked;
 
 // The laws of every run of calls from a newly opened account hold.
-pub fn laws_stand() -> u8
+pub fn laws_stand()
     ensures money { MoneyCloses }
     ensures units { UnitsClose }
     ensures marks { DayMarkFree }
     ensures joins { BringingUpJoins }
     ensures refusals { RefusalChangesNothing }
-{
-    0
-}
+{}
