@@ -14,16 +14,14 @@ impl<X: Line, Y: Line> Line for Both<X, Y> {
     ghost tariff = { λ l. joined (X.Line.tariff l.first) (Y.Line.tariff l.second) };
 
     fn terms(&self, code: PlanCode) -> Option<Terms> {
-        match self.first.terms(code) {
-            Some(terms) => Some(terms),
-            None => self.second.terms(code),
-        }
+        self.first.terms(code).or_else(|| self.second.terms(code))
     }
 
     fn entry(&self, from: PlanCode, to: PlanCode) -> Option<Entry> {
-        match self.first.terms(to) {
-            Some(_) => self.first.entry(from, to),
-            None => self.second.entry(from, to),
+        if self.first.terms(to).is_some() {
+            self.first.entry(from, to)
+        } else {
+            self.second.entry(from, to)
         }
     }
 }
