@@ -1,5 +1,5 @@
 pub mod Months
 pub mod Due
 pub mod Dates
+pub mod Text
 mod FirstDays
-mod Told

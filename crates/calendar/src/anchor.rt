@@ -2,11 +2,11 @@
 ghost use Rattle.std.specs.Prelude.{◌≡◌, if◌then◌else◌, Some, None};
 ghost use Rattle.calendar.specs.Due.{due_after, has_due_day};
 
-use crate::table::{first_day, length_of, month_of};
+use crate::month::Month;
 use quantities::time::Day;
 
 // The last day whose next month the calendar has, 30 November 2100.
-const LAST_FEE_DAY: u32 = 36_858;
+const LAST_FEE_DAY: Day = Day(36_858);
 
 // The longest months have this many days.
 const LAST_ANCHOR: u8 = 31;
@@ -21,10 +21,9 @@ pub struct Anchor(pub u8);
 pub fn due_day(day: Day, anchor: Anchor) -> Option<Day>
     ensures value { result ≡ (if has_due_day day.0 anchor.0 then Some (record { 0 = due_after day.0 anchor.0 }) else None) }
 {
-    if day.0 > LAST_FEE_DAY || anchor.0 < 1 || anchor.0 > LAST_ANCHOR {
+    if day > LAST_FEE_DAY || !(1..=LAST_ANCHOR).contains(&anchor.0) {
         return None;
     }
-    let next = month_of(day.0) + 1;
-    let due = anchor.0.min(length_of(next));
-    Some(Day(first_day(next) + u32::from(due - 1)))
+    let next = Month::of_day(day).next();
+    Some(next.day(anchor.0.min(next.length())))
 }

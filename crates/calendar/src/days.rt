@@ -1,48 +1,80 @@
 // From days to dates and back, and the lengths of months.
-ghost use Rattle.std.specs.Prelude.{◌≡◌, ◌+◌, ◌-◌, ◌*◌, ◌<◌, if◌then◌else◌, Some, None, MatchOption, nat_le};
-ghost use Rattle.calendar.specs.Dates.{last_day, has_month, exists, number, DateOfDay};
-ghost use Rattle.calendar.specs.Due.{month_day, date_of};
+ghost use Rattle.std.specs.Prelude.{◌≡◌, ◌++◌, if◌then◌else◌, Some, None, nat_le, codes, decimal};
+ghost use Rattle.calendar.specs.Conversions.{GivesDate, GivesDay};
+ghost use Rattle.calendar.specs.Dates.{last_day, has_month};
+ghost use Rattle.calendar.specs.Due.{month_day};
 ghost use Rattle.calendar.specs.Gregorian.{days_in};
+ghost use Rattle.calendar.specs.Text.{any_date_text};
 
 use crate::date::Date;
-use crate::table::{first_day, length_of, month_of};
+use crate::month::Month;
 use quantities::time::Day;
-
-// The first year of the calendar.
-const FIRST_YEAR: u16 = 2000;
-
-// The last year of the calendar.
-const LAST_YEAR: u16 = 2100;
+use std::error::Error;
+use std::fmt;
 
 // The last day of the calendar, 31 December 2100.
-const LAST_DAY: u32 = 36_889;
+const LAST_DAY: Day = Day(36_889);
 
-impl Date {
-    // The date of a day, for the days 0 to 36,889.
-    pub fn from_day(day: Day) -> Option<Date>
-        ensures value { result ≡ (if nat_le day.0 last_day then Some (date_of day.0) else None) }
-        ensures date { MatchOption result (last_day < day.0) (DateOfDay day.0) }
-    {
-        if day.0 > LAST_DAY {
-            return None;
+// A day past the calendar's last one.
+#[derive(Clone, Copy, PartialEq, Eq, Debug)]
+pub struct PastCalendar(pub Day);
+
+impl fmt::Display for PastCalendar {
+    ghost output = { λ e. Some (codes "day " ++ (decimal e.0.0 ++ codes " is past the calendar")) };
+
+    fn fmt<W: fmt::Write>(&self, f: &mut fmt::Formatter<W>) -> fmt::Result {
+        let day = self.0.0;
+        write!(f, "day {day} is past the calendar")
+    }
+}
+
+impl Error for PastCalendar {}
+
+// A date that the calendar doesn't have.
+#[derive(Clone, Copy, PartialEq, Eq, Debug)]
+pub struct NoSuchDate(pub Date);
+
+impl fmt::Display for NoSuchDate {
+    ghost output = { λ e. Some (any_date_text e.0 ++ codes " is no date of the calendar") };
+
+    fn fmt<W: fmt::Write>(&self, f: &mut fmt::Formatter<W>) -> fmt::Result {
+        let date = self.0;
+        write!(f, "{date} is no date of the calendar")
+    }
+}
+
+impl Error for NoSuchDate {}
+
+// The date of a day, for the days 0 to 36,889.
+impl TryFrom<Day> for Date {
+    type Error = PastCalendar;
+
+    ghost try_from_gives = { GivesDate };
+
+    fn try_from(day: Day) -> Result<Date, PastCalendar> {
+        if day > LAST_DAY {
+            return Err(PastCalendar(day));
         }
-        let month = month_of(day.0);
-        Some(Date {
-            year: FIRST_YEAR + (month / 12) as u16,
-            month: (month % 12) as u8 + 1,
-            day: (day.0 - first_day(month)) as u8 + 1,
+        let month = Month::of_day(day);
+        Ok(Date {
+            year: month.year(),
+            month: month.in_year(),
+            day: month.number_of(day),
         })
     }
+}
 
-    // The day of a date, if the date exists in the years 2000 to 2100.
-    pub fn to_day(self) -> Option<Day>
-        ensures value { result ≡ (if exists self then Some (record { 0 = number self }) else None) }
-    {
-        let month = month_number(self.year, self.month)?;
-        if self.day < 1 || self.day > length_of(month) {
-            return None;
+// The day of a date, if the date exists in the years 2000 to 2100.
+impl TryFrom<Date> for Day {
+    type Error = NoSuchDate;
+
+    ghost try_from_gives = { GivesDay };
+
+    fn try_from(date: Date) -> Result<Day, NoSuchDate> {
+        match Month::of_year(date.year, date.month) {
+            Some(month) if (1..=month.length()).contains(&date.day) => Ok(month.day(date.day)),
+            _ => Err(NoSuchDate(date)),
         }
-        Some(Day(first_day(month) + u32::from(self.day - 1)))
     }
 }
 
@@ -50,24 +82,14 @@ impl Date {
 pub fn month_length(year: u16, month: u8) -> Option<u8>
     ensures value { result ≡ (if has_month year month then Some (days_in year month) else None) }
 {
-    let month = month_number(year, month)?;
-    Some(length_of(month))
+    let month = Month::of_year(year, month)?;
+    Some(month.length())
 }
 
 // The day of the month, 1 to 31, on which a day of the calendar lies.
 pub fn day_of_month(day: Day) -> Option<u8>
     ensures value { result ≡ (if nat_le day.0 last_day then Some (month_day day.0) else None) }
 {
-    let date = Date::from_day(day)?;
+    let date = Date::try_from(day).ok()?;
     Some(date.day)
-}
-
-// The month of a year, counted from January 2000.
-fn month_number(year: u16, month: u8) -> Option<usize>
-    ensures value { result ≡ (if has_month year month then Some ((year - 2000) * 12 + (month - 1)) else None) }
-{
-    if year < FIRST_YEAR || year > LAST_YEAR || month < 1 || month > 12 {
-        return None;
-    }
-    Some((year - FIRST_YEAR) as usize * 12 + (month - 1) as usize)
 }

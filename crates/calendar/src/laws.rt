@@ -1,11 +1,13 @@
 // The laws of days, dates, months and due days.
 ghost use Rattle.calendar.specs.Agreement.{DaysHaveDates, DatesHaveDays};
+ghost use Rattle.calendar.specs.Text.{DatesWritten};
 ghost use Rattle.calendar.specs.Due.{DueLater, DueWithin, DueNextMonth, DueDated, MonthOfMonotone, MonthOfBefore, MonthDayLeast, MonthDayMost};
 
 // Day to date and date to day agree on all days: a crate with this function has the proof.
 pub fn dates_stand() -> u8
     ensures days { DaysHaveDates }
     ensures dates { DatesHaveDays }
+    ensures written { DatesWritten }
 {
     0
 }

@@ -5,4 +5,5 @@ pub mod anchor;
 pub mod date;
 pub mod days;
 pub mod laws;
+mod month;
 mod table;

@@ -1,11 +1,13 @@
-// The table of the first days of months, and the month of a day by it.
+// The table of the first days of months, and the month of a day by it. Months are counted from January 2000, which is month 0.
 ghost use Rattle.std.specs.Prelude.{◌≡◌, ◌+◌, ◌<◌, ◌≤◌};
 ghost use Rattle.calendar.specs.Dates.{last_day};
 ghost use Rattle.calendar.specs.Due.{month_of};
-ghost use Rattle.calendar.specs.Gregorian.{first, month_length};
+ghost use Rattle.calendar.specs.Gregorian.{first};
+
+use quantities::time::Day;
 
 // The first day of each month from January 2000 to December 2100, and the day after the last.
-const FIRST_DAYS: [u32; 1213] = [
+static FIRST_DAYS: [u32; 1213] = [
     0, 31, 60, 91, 121, 152, 182, 213, 244, 274, 305, 335, 366, 397, 425, 456, 486, 517, 547, 578,
     609, 639, 670, 700, 731, 762, 790, 821, 851, 882, 912, 943, 974, 1004, 1035, 1065, 1096, 1127,
     1155, 1186, 1216, 1247, 1277, 1308, 1339, 1369, 1400, 1430, 1461, 1492, 1521, 1552, 1582, 1613,
@@ -97,7 +99,7 @@ const FIRST_DAYS: [u32; 1213] = [
     36859, 36890,
 ];
 
-// The first day of month `k`, counted from January 2000, which is month 0.
+// The first day of month `k`, and for k = 1,212 the day after the calendar's last.
 pub(crate) fn first_day(k: usize) -> u32
     requires { k < 1213 }
     ensures value { result ≡ first k }
@@ -106,31 +108,10 @@ pub(crate) fn first_day(k: usize) -> u32
     FIRST_DAYS[k]
 }
 
-// How many days month `k` has: from its first day to that of the next month.
-pub(crate) fn length_of(k: usize) -> u8
-    requires { k < 1212 }
-    ensures { result ≡ month_length k }
+// How many months have begun by the end of a day of the calendar.
+pub(crate) fn months_begun(day: Day) -> usize
+    requires { day.0 ≤ last_day }
+    ensures { result ≡ month_of day.0 + 1 }
 {
-    (first_day(k + 1) - first_day(k)) as u8
-}
-
-// The month in which a day of the calendar lies, counted from January 2000.
-pub(crate) fn month_of(day: u32) -> usize
-    requires { day ≤ last_day }
-    ensures value { result ≡ month_of day }
-    ensures within { result < 1212 }
-    ensures begun { first result ≤ day }
-    ensures during { day < first result + month_length result }
-{
-    let mut month = 0;
-    let mut after = 1212;
-    while after - month > 1 {
-        let middle = month + (after - month) / 2;
-        if first_day(middle) <= day {
-            month = middle;
-        } else {
-            after = middle;
-        }
-    }
-    month
+    FIRST_DAYS.partition_point(|first| *first <= day.0)
 }

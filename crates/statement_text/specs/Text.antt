@@ -1,8 +1,9 @@
 -- The lines of a statement, as bytes.
-use Rattle.std.specs.Prelude.{ℕ, ◌+◌, ◌/◌, ◌%◌, cond, List, [], ◌∷◌, ◌++◌, Some, None, codes, decimal, Option, nat_le}
+use Rattle.std.specs.Prelude.{ℕ, cond, List, ◌++◌, Some, None, codes, decimal, Option, nat_le}
 use Rattle.calendar.specs.declared.date.Date.{Date}
 use Rattle.calendar.specs.Dates.{last_day}
 use Rattle.calendar.specs.Due.{date_of}
+use Rattle.calendar.specs.Text.{date_text}
 use Rattle.rules.specs.declared.call.Status.{Status}
 use Rattle.rules.specs.declared.call.Status.TheVariants.{Blocked, Active}
 
@@ -18,16 +19,6 @@ record_text index number fees use_charges switch_charges balance =
 -- A refused file or opening has one line, with its number.
 abbrev pub refused_text : ℕ → List ℕ
 refused_text number = codes "refused " ++ (decimal number ++ codes "\n")
-
--- A number of two digits, with a leading zero below ten. The digit 0 is written as the byte 48.
-abbrev pub two_digits : ℕ → List ℕ
-two_digits n = (48 + n / 10 % 10) ∷ ((48 + n % 10) ∷ [])
-
--- A date is written as YYYY-MM-DD, with leading zeros.
-abbrev pub date_text : Date → List ℕ
-date_text t =
-    two_digits (t.year / 100)
-    ++ (two_digits (t.year % 100) ++ (codes "-" ++ (two_digits t.month ++ (codes "-" ++ two_digits t.day))))
 
 -- The date of a day, which days past the calendar's last don't have.
 abbrev pub date_on : ℕ → Option Date

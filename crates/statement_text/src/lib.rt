@@ -1,5 +1,4 @@
 // The text of a statement.
 #![tactic(auto)]
 
-pub mod date;
 pub mod line;

@@ -2,7 +2,6 @@
 ghost use Rattle.std.specs.Prelude.{◌≡◌, IfOk, Some, None, string_bytes, MatchOption};
 ghost use Rattle.statement_text.specs.Text.{record_text, refused_text, last_text};
 
-use crate::date::WrittenDate;
 use calendar::date::Date;
 use quantities::money::Sums;
 use rules::call::Status;
@@ -35,10 +34,9 @@ pub fn last_line(heap: Global, status: Status) -> Result<Option<String>, AllocEr
     match status {
         Status::Blocked => Ok(Some(format!(in heap; "blocked\n")?)),
         Status::Active(day) => {
-            let Some(date) = Date::from_day(day) else {
+            let Ok(date) = Date::try_from(day) else {
                 return Ok(None);
             };
-            let date = WrittenDate { date };
             Ok(Some(format!(in heap; "due {date}\n")?))
         }
     }
