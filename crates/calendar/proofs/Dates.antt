@@ -4,7 +4,7 @@ use lib.Arith.{digits_div, digits_mod}
 use Rattle.std.proofs.lemmas.Bool.{and_parts, and_from, leb-true, le-leb}
 use Rattle.calendar.specs.declared.date.Date.{Date}
 use Rattle.calendar.specs.Gregorian.{first, month_length, year_of, month_of_year, days_in}
-use Rattle.calendar.specs.Dates.{has_month, exists, number, last_day}
+use Rattle.calendar.specs.Dates.{has_month, exists, number, last_day, months}
 use Rattle.calendar.specs.Due.{month_of, month_day, date_of}
 use Rattle.calendar.specs.Agreement.{DaysHaveDates, DatesHaveDays}
 use Rattle.calendar.proofs.Months.{dated, before, number-first, number_in, month_of-within, month_of_is}
@@ -52,7 +52,7 @@ pub record Placed (y m : ℕ) : Type 0 where
   pub year : year_of (place y m) ≡ y
   pub month : month_of_year (place y m) ≡ m
   pub length : month_length (place y m) ≡ days_in y m
-  pub within : place y m < 1212
+  pub within : place y m < months
 
 pub placed : (y m : ℕ) → Month y m → Placed y m
 placed y m p =
@@ -92,7 +92,7 @@ dates_have_days t v =
     let q = placed t.year t.month p.month in
     let k = place t.year t.month in
     let n = number-first t.year t.month t.day p.month.early p.month.one p.month.twelve in
-    let b : first k + month_length k ≤ 36890 = before k 1212 q.within in
+    let b : first k + month_length k ≤ 36890 = before k months q.within in
     let e : month_of (number t) ≡ k = month_of_is k (number t) (omega arith) in
     let y : year_of (month_of (number t)) ≡ t.year = ap year_of e ∙ q.year in
     let m : month_of_year (month_of (number t)) ≡ t.month = ap month_of_year e ∙ q.month in

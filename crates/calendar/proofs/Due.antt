@@ -2,7 +2,7 @@
 use Rattle.std.proofs.Common.{◌≡◌, ℕ, ◌+◌, ◌-◌, ◌<◌, ◌≤◌, min, ap, ◌∙◌, inl, inr, arith}
 use Rattle.std.proofs.lemmas.Bool.{cases_lt}
 use Rattle.calendar.specs.Gregorian.{year_of, month_of_year, month_length, first}
-use Rattle.calendar.specs.Dates.{last_day}
+use Rattle.calendar.specs.Dates.{last_day, months}
 use Rattle.calendar.specs.Due.{month_of, month_day, due_after, last_fee_day, DueLater, DueWithin, DueNextMonth, DueDated, MonthOfMonotone, MonthOfBefore, MonthDayLeast, MonthDayMost}
 use Rattle.calendar.proofs.Months.{dated, next, first_monotone, length-least, length_most, number_in, month_of-within, month_of_is}
 
@@ -55,12 +55,12 @@ month_of_monotone d e h =
     let n = next (month_of e) in
     omega (arith, month_of_before d (month_of e + 1) (omega arith))
 
--- a day of the calendar lies in one of its 1,212 months
-pub month_of-calendar : (d : ℕ) → d ≤ last_day → month_of d < 1212
-month_of-calendar d h = month_of_before d 1212 (omega arith)
+-- a day of the calendar lies in one of its months
+pub month_of-calendar : (d : ℕ) → d ≤ last_day → month_of d < months
+month_of-calendar d h = month_of_before d months (omega arith)
 
 -- and the calendar has the month after that of a fee
-pub month_of-fee : (d : ℕ) → d ≤ last_fee_day → month_of d + 1 < 1212
+pub month_of-fee : (d : ℕ) → d ≤ last_fee_day → month_of d + 1 < months
 month_of-fee d h = omega (arith, month_of_before d 1211 (omega arith))
 
 pub month_day_least : MonthDayLeast

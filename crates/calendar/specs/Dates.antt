@@ -7,6 +7,10 @@ use Rattle.calendar.specs.Gregorian.{days_in, days_before_year, days_before_mont
 abbrev pub last_day : ℕ
 last_day = 36_889
 
+-- It covers 1,212 months, the last of which is December 2100.
+abbrev pub months : ℕ
+months = 1212
+
 -- Months go from 1 to 12, and the calendar covers the years 2000 to 2100.
 abbrev pub has_month : ℕ → ℕ → Bool
 has_month y m = nat_le 2000 y && (nat_le y 2100 && (nat_le 1 m && nat_le m 12))

@@ -1,6 +1,6 @@
 // The months of the calendar.
 ghost use Rattle.std.specs.Prelude.{◌≡◌, ◌+◌, ◌-◌, ◌<◌, ◌≤◌, IfSome, is_some};
-ghost use Rattle.calendar.specs.Dates.{last_day, has_month};
+ghost use Rattle.calendar.specs.Dates.{last_day, has_month, months};
 ghost use Rattle.calendar.specs.Due.{month_of};
 ghost use Rattle.calendar.specs.Gregorian.{first, month_length, year_of, month_of_year};
 
@@ -17,7 +17,7 @@ const LAST_YEAR: u16 = 2100;
 #[derive(Clone, Copy)]
 pub(crate) struct Month {
     pub(crate) number: usize,
-    ghost inside: { number < 1212 },
+    ghost inside: { number < months },
 }
 
 impl Month {
@@ -49,7 +49,7 @@ impl Month {
 
     // The month after this one.
     pub(crate) fn next(self) -> Month
-        requires { self.number < 1211 }
+        requires { self.number + 1 < months }
         ensures { result.number ≡ self.number + 1 }
     {
         Month {

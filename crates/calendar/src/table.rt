@@ -1,6 +1,6 @@
 // The table of the first days of months, and the month of a day by it. Months are counted from January 2000, which is month 0.
-ghost use Rattle.std.specs.Prelude.{◌≡◌, ◌+◌, ◌<◌, ◌≤◌};
-ghost use Rattle.calendar.specs.Dates.{last_day};
+ghost use Rattle.std.specs.Prelude.{◌≡◌, ◌+◌, ◌≤◌};
+ghost use Rattle.calendar.specs.Dates.{last_day, months};
 ghost use Rattle.calendar.specs.Due.{month_of};
 ghost use Rattle.calendar.specs.Gregorian.{first};
 
@@ -99,9 +99,9 @@ static FIRST_DAYS: [u32; 1213] = [
     36859, 36890,
 ];
 
-// The first day of month `k`, and for k = 1,212 the day after the calendar's last.
+// The first day of month `k`, and after the last month the day after the calendar's last.
 pub(crate) fn first_day(k: usize) -> u32
-    requires { k < 1213 }
+    requires { k ≤ months }
     ensures value { result ≡ first k }
     ensures within { result ≤ last_day + 1 }
 {

@@ -3,4 +3,4 @@ use Rattle.calendar.proofs.FirstDays.{at, most}
 use Rattle.calendar.proofs.table.first_day.Goals as goal
 
 pub returns : goal.returns
-returns c = record { value = at 1213 c.args.k 0 c.requires; within = most c.args.k c.requires }
+returns c = record { value = at c.args.k 0 c.requires; within = most c.args.k c.requires }
