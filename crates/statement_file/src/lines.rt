@@ -24,9 +24,7 @@ fn posting_line(heap: Global, posted: Posted) -> Result<String, AllocError>
         heap,
         posted.place.index,
         number_of(posted.outcome),
-        posted.receipt.fees,
-        posted.receipt.use_charges,
-        posted.receipt.switch_charges,
+        posted.receipt,
         posted.balance,
     )
 }

@@ -4,24 +4,23 @@ ghost use Rattle.statement_text.specs.Text.{record_text, refused_text, last_text
 
 use calendar::date::Date;
 use quantities::money::Sums;
+use receipt::receipt::Receipt;
 use rules::call::Status;
 use std::alloc::{AllocError, Global};
 
-// The line of a record: its index, its refusal's number or 0, what its call cost, and the balance after it.
+// The line of a record: its index, its refusal's number or 0, what its call took by its receipt, and the balance after it.
 pub fn record_line(
     heap: Global,
     index: u32,
     number: u8,
-    fees: Sums,
-    use_charges: Sums,
-    switch_charges: Sums,
+    receipt: Receipt,
     balance: Sums,
 ) -> Result<String, AllocError>
-    ensures text { IfOk result (λ s. string_bytes s ≡ record_text index number fees.0 use_charges.0 switch_charges.0 balance.0) }
+    ensures text { IfOk result (λ s. string_bytes s ≡ record_text index number receipt.fees.0 receipt.use_charges.0 receipt.switch_charges.0 balance.0) }
 {
-    let fees = fees.0;
-    let use_charges = use_charges.0;
-    let switch_charges = switch_charges.0;
+    let fees = receipt.fees.0;
+    let use_charges = receipt.use_charges.0;
+    let switch_charges = receipt.switch_charges.0;
     let balance = balance.0;
     format!(in heap; "{index} {number} {fees} {use_charges} {switch_charges} {balance}\n")
 }
