@@ -4,16 +4,14 @@ ghost use Rattle.calendar.specs.Text.{DatesWritten};
 ghost use Rattle.calendar.specs.Due.{DueLater, DueWithin, DueNextMonth, DueDated, MonthOfMonotone, MonthOfBefore, MonthDayLeast, MonthDayMost};
 
 // Day to date and date to day agree on all days: a crate with this function has the proof.
-pub fn dates_stand() -> u8
+pub fn dates_stand()
     ensures days { DaysHaveDates }
     ensures dates { DatesHaveDays }
     ensures written { DatesWritten }
-{
-    0
-}
+{}
 
 // The laws of due days, over all days and anchors: a crate with this function has the proofs.
-pub fn due_laws_stand() -> u8
+pub fn due_laws_stand()
     ensures later { DueLater }
     ensures within { DueWithin }
     ensures month { DueNextMonth }
@@ -22,6 +20,4 @@ pub fn due_laws_stand() -> u8
     ensures before { MonthOfBefore }
     ensures least { MonthDayLeast }
     ensures most { MonthDayMost }
-{
-    0
-}
+{}

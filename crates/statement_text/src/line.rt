@@ -18,11 +18,10 @@ pub fn record_line(
 ) -> Result<String, AllocError>
     ensures text { IfOk result (λ s. string_bytes s ≡ record_text index number receipt.fees.0 receipt.use_charges.0 receipt.switch_charges.0 balance.0) }
 {
-    let fees = receipt.fees.0;
-    let use_charges = receipt.use_charges.0;
-    let switch_charges = receipt.switch_charges.0;
-    let balance = balance.0;
-    format!(in heap; "{index} {number} {fees} {use_charges} {switch_charges} {balance}\n")
+    format!(in heap;
+        "{index} {number} {} {} {} {balance}\n",
+        receipt.fees, receipt.use_charges, receipt.switch_charges
+    )
 }
 
 // The last line: whether the account is blocked, and otherwise the date when it is due. No line for a day past the calendar,
