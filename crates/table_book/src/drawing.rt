@@ -1,9 +1,10 @@
 // Drawing on old lots, and their end.
-ghost use Rattle.std.specs.Prelude.{◌≡◌, ◌+◌, ◌^◌, ◌<◌, ◌≤◌, min, drop};
+ghost use Rattle.std.specs.Prelude.{◌≡◌, ◌+◌, min};
 ghost use Rattle.book.specs.Allowance.{units, as_lot, undrawn, ended, lasting};
 ghost use Rattle.table_book.specs.Held.{held};
 
-use crate::lots::{Lots, MOST_LOTS};
+use crate::lots::Lots;
+use arrayvec::ArrayVec;
 use book::lot::Lot;
 use quantities::time::Day;
 
@@ -12,31 +13,43 @@ impl Lots {
     pub(crate) fn of(amount: u32, end: Day) -> Lots
         ensures lots { held result ≡ as_lot amount end.0 }
     {
-        Lots {
-            lots: [Lot { amount, end }; MOST_LOTS],
-            len: if amount == 0 { 0 } else { 1 },
+        let mut lots = ArrayVec::new();
+        if amount > 0 {
+            lots.push(Lot { amount, end });
         }
+        Lots { lots }
     }
 
     // The sum of the lots.
     pub(crate) fn sum(&self) -> u32
-        requires { units (held self.now) < 2 ^ 32 }
         ensures value { result ≡ units (held self.now) }
     {
-        let mut sum = 0;
-        for i in 0..self.len {
-            sum += self.lots[i].amount;
-        }
-        sum
+        self.lots.iter().map(|lot| lot.amount).sum()
     }
 
-    // Removes the first `gone` lots.
-    fn forget(&mut self, gone: usize)
-        requires { gone ≤ self.old.len }
-        ensures lots { held self.new ≡ drop gone (held self.old) }
+    // The sum of the lots that end at or before the day.
+    pub(crate) fn ended(&self, day: Day) -> u32
+        ensures value { result ≡ units (ended day.0 (held self.now)) }
+        ensures parts { result + units (lasting day.0 (held self.now)) ≡ units (held self.now) }
     {
-        self.lots.copy_within(gone..self.len, 0);
-        self.len -= gone;
+        self.lots
+            .iter()
+            .filter(|lot| lot.ended_by(day))
+            .map(|lot| lot.amount)
+            .sum()
+    }
+
+    // The lots that last past the day.
+    pub(crate) fn lasting(&self, day: Day) -> Lots
+        ensures lots { held result ≡ lasting day.0 (held self.now) }
+    {
+        let mut lots = ArrayVec::new();
+        for lot in self.lots.iter() {
+            if !lot.ended_by(day) {
+                lots.push(*lot);
+            }
+        }
+        Lots { lots }
     }
 
     // Takes the smaller of `n` and all that is left, by end, and answers it.
@@ -45,37 +58,26 @@ impl Lots {
         ensures lots { held self.new ≡ undrawn n (held self.old) }
     {
         let mut left = n;
-        let mut gone = 0;
-        while gone < self.len {
-            left -= self.lots[gone].lower(left);
-            if self.lots[gone].amount > 0 {
+        let mut emptied = 0;
+        for lot in self.lots.iter_mut() {
+            left -= lot.lower(left);
+            if lot.amount > 0 {
                 break;
             }
-            gone += 1;
+            emptied += 1;
         }
-        self.forget(gone);
+        self.lots.drain(..emptied);
         n - left
     }
 
     // Removes the lots that end at or before the day, and answers their sum.
     pub(crate) fn lapse(&mut self, day: Day) -> u32
-        requires { units (held self.old) < 2 ^ 32 }
         ensures answer { result ≡ units (ended day.0 (held self.old)) }
         ensures lots { held self.new ≡ lasting day.0 (held self.old) }
         ensures parts { result + units (held self.new) ≡ units (held self.old) }
     {
-        let mut sum = 0;
-        let mut stay = 0;
-        for i in 0..self.len {
-            let lot = self.lots[i];
-            if lot.ended_by(day) {
-                sum += lot.amount;
-                continue;
-            }
-            self.lots[stay] = lot;
-            stay += 1;
-        }
-        self.len = stay;
-        sum
+        let ended = self.ended(day);
+        self.lots.retain(|lot| !lot.ended_by(day));
+        ended
     }
 }

@@ -1,67 +1,69 @@
 // Putting old lots together, in the order of their ends and with lots of equal end joined.
-ghost use Rattle.std.specs.Prelude.{◌≡◌, ◌+◌, ◌^◌, ◌<◌, ◌≤◌, length, if◌then◌else◌, fold, nat_le};
-ghost use Rattle.std.specs.List.{insert};
+ghost use Rattle.std.specs.Prelude.{◌≡◌, ◌+◌, ◌^◌, ◌<◌, ◌++◌, length, if◌then◌else◌, fold, is_ok, Err, MatchResult, nat_le};
+ghost use Rattle.std.specs.List.{position_or_len};
 ghost use Rattle.book.specs.Allowance.{units, as_lot, with_lot, with_capped, gathered};
 ghost use Rattle.table_book.specs.Held.{held};
-ghost use Rattle.table_book.specs.Room.{most_lots};
+ghost use Rattle.table_book.specs.Room.{room_answer};
 
-use crate::lots::{Lots, MOST_LOTS};
+use crate::lots::Lots;
+use book::fault::BookFault;
 use book::lot::Lot;
 use quantities::time::Day;
 
 impl Lots {
-    // Puts `lot` before the lot at `at`, if there is room.
-    fn insert(&mut self, at: usize, lot: Lot) -> bool
-        requires { at ≤ self.old.len }
-        ensures answer { result ≡ nat_le (length (insert (held self.old) at lot)) most_lots }
-        ensures lots { held self.new ≡ (if result then insert (held self.old) at lot else held self.old) }
+    // The place of the first lot that doesn't end before the day, or the one behind them all.
+    fn place(&self, end: Day) -> usize
+        ensures value { result ≡ position_or_len (λ lot. nat_le end.0 lot.end.0) (held self.now) }
     {
-        if self.len == MOST_LOTS {
-            return false;
-        }
-        self.lots.copy_within(at..self.len, at + 1);
-        self.lots[at] = lot;
-        self.len += 1;
-        true
+        self.lots
+            .iter()
+            .position(|lot| lot.end >= end)
+            .unwrap_or(self.lots.len())
     }
 
     // Puts in one lot more, in the order of the ends or joined with one of equal end, if there is room.
-    fn add(&mut self, lot: Lot) -> bool
+    fn add(&mut self, lot: Lot) -> Result<(), BookFault>
         requires { units (held self.old) + lot.amount < 2 ^ 32 }
-        ensures answer { result ≡ nat_le (length (with_lot lot (held self.old))) most_lots }
-        ensures lots { held self.new ≡ (if result then with_lot lot (held self.old) else held self.old) }
+        ensures answer { result ≡ room_answer (with_lot lot (held self.old)) }
+        ensures lots { held self.new ≡ (if is_ok result then with_lot lot (held self.old) else held self.old) }
     {
-        for i in 0..self.len {
-            let end = self.lots[i].end;
-            if end == lot.end {
-                self.lots[i].amount += lot.amount;
-                return true;
-            }
-            if end > lot.end {
-                return self.insert(i, lot);
+        let at = self.place(lot.end);
+        if let Some(other) = self.lots.get_mut(at) {
+            if other.end == lot.end {
+                other.amount += lot.amount;
+                return Ok(());
             }
         }
-        self.insert(self.len, lot)
+        if self.lots.is_full() {
+            return Err(BookFault::TooManyLots);
+        }
+        self.lots.insert(at, lot);
+        Ok(())
     }
 
     // The same with an amount as a lot, 0 making none, and its end lowered to the cap where it is past it.
-    pub(crate) fn put(&mut self, amount: u32, end: Day, cap: Day) -> bool
+    fn put(&mut self, amount: u32, end: Day, cap: Day) -> Result<(), BookFault>
         requires { units (held self.old) + amount < 2 ^ 32 }
-        ensures answer { result ≡ nat_le (length (fold (with_capped cap.0) (held self.old) (as_lot amount end.0))) most_lots }
-        ensures lots { held self.new ≡ (if result then fold (with_capped cap.0) (held self.old) (as_lot amount end.0) else held self.old) }
+        ensures answer { result ≡ room_answer (fold (with_capped cap.0) (held self.old) (as_lot amount end.0)) }
+        ensures lots { held self.new ≡ (if is_ok result then fold (with_capped cap.0) (held self.old) (as_lot amount end.0) else held self.old) }
     {
-        amount == 0 || self.add(Lot { amount, end }.capped(cap))
+        if amount == 0 {
+            return Ok(());
+        }
+        self.add(Lot { amount, end }.capped(cap))
     }
 
-    // The lots with each end past the cap lowered to it, and those of equal end joined.
-    pub(crate) fn lowered(&self, cap: Day) -> Lots
-        requires { units (held self.now) < 2 ^ 32 }
-        ensures lots { held result ≡ gathered cap.0 (held self.now) }
+    // The lots and an amount as one lot more, with each end past the cap lowered to it, and those of equal end joined,
+    // if there is room.
+    pub(crate) fn aside(&self, amount: u32, end: Day, cap: Day) -> Result<Lots, BookFault>
+        requires { units (held self.now) + amount < 2 ^ 32 }
+        ensures lots { MatchResult result (λ next. held next ≡ gathered cap.0 (held self.now ++ as_lot amount end.0)) (λ fault. Err fault ≡ room_answer (gathered cap.0 (held self.now ++ as_lot amount end.0))) }
     {
         let mut next = Lots::of(0, cap);
-        for i in 0..self.len {
-            next.add(self.lots[i].capped(cap));
+        for lot in self.lots.iter() {
+            next.add(lot.capped(cap))?;
         }
-        next
+        next.put(amount, end, cap)?;
+        Ok(next)
     }
 }

@@ -1,17 +1,18 @@
-// The old lots of a table book, in the front of an array.
-ghost use Rattle.std.specs.Prelude.{◌≡◌, ◌≤◌, length};
+// The old lots of a table book.
+ghost use Rattle.std.specs.Prelude.{◌^◌, ◌<◌, ◌≤◌, length};
+ghost use Rattle.book.specs.Allowance.{units};
 ghost use Rattle.table_book.specs.Room.{most_lots};
 
+use arrayvec::ArrayVec;
 use book::lot::Lot;
 
 // The most old lots that a table book holds.
 pub(crate) const MOST_LOTS: usize = 31;
 
-// The first `len` of the lots stand.
-#[derive(Clone, Copy)]
+// At most so many lots, and few enough units that a sum of them fits.
+#[derive(Drop)]
 pub(crate) struct Lots {
-    pub(crate) lots: [Lot; MOST_LOTS],
-    pub(crate) len: usize,
-    ghost whole: { length lots ≡ most_lots },
-    ghost few: { len ≤ most_lots },
+    pub(crate) lots: ArrayVec<Lot, MOST_LOTS>,
+    ghost few: { length lots.items ≤ most_lots },
+    ghost countable: { units lots.items < 2 ^ 32 },
 }

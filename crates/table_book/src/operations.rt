@@ -78,11 +78,8 @@ impl Book for Table {
     }
 
     fn set_aside(&mut self, end: Day, cap: Day) -> Result<(), BookFault> {
-        let mut next = self.old.lowered(cap);
-        if !next.put(self.fresh, end, cap) {
-            return Err(BookFault::TooManyLots);
-        }
-        if self.old.sum() + self.fresh > MOST_OLD_UNITS {
+        let next = self.old.aside(self.fresh, end, cap)?;
+        if next.sum() > MOST_OLD_UNITS {
             return Err(BookFault::TooManyUnits);
         }
         self.old = next;
@@ -99,14 +96,14 @@ impl Book for Table {
     }
 
     fn old_after(&self, day: Day) -> u32 {
-        let mut lots = self.old;
-        lots.lapse(day);
-        lots.sum()
+        self.old.sum() - self.old.ended(day)
     }
 
     fn set_aside_after(&self, day: Day, end: Day, cap: Day) -> Result<(), BookFault> {
-        let mut next = *self;
-        next.lapse(day);
+        let mut next = Table {
+            old: self.old.lasting(day),
+            fresh: self.fresh,
+        };
         next.set_aside(end, cap)
     }
 }
