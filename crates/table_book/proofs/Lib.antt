@@ -1,2 +1,3 @@
+mod Lasting
 mod Places
 mod Sums

@@ -1,4 +1,4 @@
--- Units as a sum in the library's words, and what a filter leaves of them.
+-- Units as a sum in the library's words.
 use Rattle.std.proofs.Common.{◌≡◌, List, refl}
 use Rattle.std.specs.List.{sum_by}
 use Rattle.std.proofs.lemmas.List.Recursion.{is_sum_by}

@@ -1,6 +1,6 @@
 // Drawing on old lots, and their end.
-ghost use Rattle.std.specs.Prelude.{◌≡◌, ◌+◌, min};
-ghost use Rattle.book.specs.Allowance.{units, as_lot, undrawn, ended, lasting};
+ghost use Rattle.std.specs.Prelude.{◌≡◌, ◌+◌, ◌≤◌, min, true, []};
+ghost use Rattle.book.specs.Allowance.{units, rising, as_lot, undrawn, ended, lasting};
 ghost use Rattle.table_book.specs.Held.{held};
 
 use crate::lots::Lots;
@@ -9,6 +9,15 @@ use book::lot::Lot;
 use quantities::time::Day;
 
 impl Lots {
+    // No lots.
+    pub(crate) fn none() -> Lots
+        ensures lots { held result ≡ [] }
+    {
+        Lots {
+            lots: ArrayVec::new(),
+        }
+    }
+
     // One lot, or none where the amount is 0.
     pub(crate) fn of(amount: u32, end: Day) -> Lots
         ensures lots { held result ≡ as_lot amount end.0 }
@@ -42,6 +51,8 @@ impl Lots {
     // The lots that last past the day.
     pub(crate) fn lasting(&self, day: Day) -> Lots
         ensures lots { held result ≡ lasting day.0 (held self.now) }
+        ensures fewer { units (held result) ≤ units (held self.now) }
+        ensures ordered { rising 0 (held self.now) ≡ true → rising 0 (held result) ≡ true }
     {
         let mut lots = ArrayVec::new();
         for lot in self.lots.iter() {
@@ -75,6 +86,7 @@ impl Lots {
         ensures answer { result ≡ units (ended day.0 (held self.old)) }
         ensures lots { held self.new ≡ lasting day.0 (held self.old) }
         ensures parts { result + units (held self.new) ≡ units (held self.old) }
+        ensures ordered { rising 0 (held self.old) ≡ true → rising 0 (held self.new) ≡ true }
     {
         let ended = self.ended(day);
         self.lots.retain(|lot| !lot.ended_by(day));

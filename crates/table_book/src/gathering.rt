@@ -47,10 +47,10 @@ impl Lots {
         ensures answer { result ≡ room_answer (fold (with_capped cap.0) (held self.old) (as_lot amount end.0)) }
         ensures lots { held self.new ≡ (if is_ok result then fold (with_capped cap.0) (held self.old) (as_lot amount end.0) else held self.old) }
     {
-        if amount == 0 {
-            return Ok(());
+        if amount > 0 {
+            self.add(Lot { amount, end }.capped(cap))?;
         }
-        self.add(Lot { amount, end }.capped(cap))
+        Ok(())
     }
 
     // The lots and an amount as one lot more, with each end past the cap lowered to it, and those of equal end joined,
@@ -59,7 +59,7 @@ impl Lots {
         requires { units (held self.now) + amount < 2 ^ 32 }
         ensures lots { MatchResult result (λ next. held next ≡ gathered cap.0 (held self.now ++ as_lot amount end.0)) (λ fault. Err fault ≡ room_answer (gathered cap.0 (held self.now ++ as_lot amount end.0))) }
     {
-        let mut next = Lots::of(0, cap);
+        let mut next = Lots::none();
         for lot in self.lots.iter() {
             next.add(lot.capped(cap))?;
         }

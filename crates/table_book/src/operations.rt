@@ -19,7 +19,7 @@ impl Table {
         ensures book { meaning result ≡ empty }
     {
         Table {
-            old: Lots::of(0, Day(0)),
+            old: Lots::none(),
             fresh: 0,
         }
     }
@@ -72,7 +72,7 @@ impl Book for Table {
             old: self.old.sum(),
             fresh: self.fresh,
         };
-        self.old = Lots::of(0, Day(0));
+        self.old = Lots::none();
         self.fresh = 0;
         cleared
     }

@@ -1,12 +1,10 @@
 -- One lot more is joined with the lot of equal end, or goes in before the first that ends later.
-use Rattle.std.proofs.Common.{◌≡◌, ◌+◌, ◌≤◌, length, set, sym, ap, ◌∙◌, arith, length-set, rules, tests}
+use Rattle.std.proofs.Common.{◌≡◌, ◌+◌, ◌≤◌, length, sym, ap, ◌∙◌, arith, length-set, rules, tests}
 use Rattle.std.proofs.lemmas.Bool.Decides.{nat_tests}
 use Rattle.std.proofs.lemmas.List.Edits.{length-insert}
 use Rattle.std.specs.List.{insert}
-use Rattle.book.specs.declared.lot.Lot.{Lot}
 use Rattle.book.specs.Allowance.{units, with_lot}
 use Rattle.table_book.specs.Held.{held}
-use Rattle.table_book.specs.Room.{room_answer}
 use Rattle.book.proofs.Gathering.{units_with}
 use Rattle.table_book.proofs.Places.{joins, goes_in, goes_last, units_set, unwritten, place_within}
 use Rattle.table_book.proofs.lots.Lots.add.Goals as goal

@@ -14,8 +14,8 @@ sum-requires-clause-fits c =
     let day = c.args.day.0 in
     fits_by_from_yields_list (λ l. l.amount) (ended day ls) c.map.result _
     (YieldsList-from_map _ (λ l. l.amount)
-      (YieldsList-at c.map.ensures.source (YieldsList-from_filter _ (λ l. leb l.end.0 day) (YieldsList-at c.filter.ensures.source (YieldsList-from_slice ls (cc))) c.filter.ensures.closure (λ x r q k. search (rules, tests))))
-      c.map.ensures.closure (λ x r q k. search rules))
+    (YieldsList-at c.map.ensures.source (YieldsList-from_filter _ (λ l. leb l.end.0 day) (YieldsList-at c.filter.ensures.source (YieldsList-from_slice ls (cc))) c.filter.ensures.closure (λ x r q k. search (rules, tests))))
+    c.map.ensures.closure (λ x r q k. search rules))
     (omega (arith, units_sum (ended day ls), units_kept (λ l. leb l.end.0 day) ls))
 
 pub returns-clause-value : goal.returns-clause-value
@@ -24,8 +24,8 @@ returns-clause-value c =
     let day = c.args.day.0 in
     sum_by_from_yields_List (λ l. l.amount) (ended day ls) c.map.result c.sum.result c.sum.ensures.ran
     (YieldsList-from_map _ (λ l. l.amount)
-      (YieldsList-at c.map.ensures.source (YieldsList-from_filter _ (λ l. leb l.end.0 day) (YieldsList-at c.filter.ensures.source (YieldsList-from_slice ls (cc))) c.filter.ensures.closure (λ x r q k. search (rules, tests))))
-      c.map.ensures.closure (λ x r q k. search rules))
+    (YieldsList-at c.map.ensures.source (YieldsList-from_filter _ (λ l. leb l.end.0 day) (YieldsList-at c.filter.ensures.source (YieldsList-from_slice ls (cc))) c.filter.ensures.closure (λ x r q k. search (rules, tests))))
+    c.map.ensures.closure (λ x r q k. search rules))
     ∙ sym (units_sum (ended day ls))
 
 pub returns-clause-parts : goal.returns-clause-parts

@@ -1,5 +1,5 @@
 -- The place is the first whose lot passes the test, or the length.
-use Rattle.std.proofs.Common.{◌≡◌, not, leb, length, arith, rules, tests}
+use Rattle.std.proofs.Common.{not, leb, arith, rules, tests}
 use Rattle.std.proofs.lemmas.Bool.Decides.{nat_tests}
 use Rattle.std.proofs.lemmas.List.Sums.{prefix_len-le-length}
 use Rattle.std.proofs.lemmas.Iterator.{YieldsList-from_slice}

@@ -16,8 +16,9 @@ sum-requires-clause-fits c =
 pub returns : goal.returns
 returns c =
     let ls = held c.args.self.now in
-    record { value =
-      sum_by_from_yields_List (λ l. l.amount) ls c.map.result c.sum.result c.sum.ensures.ran
-      (YieldsList-from_map _ (λ l. l.amount) (YieldsList-at c.map.ensures.source (YieldsList-from_slice ls (cc))) c.map.ensures.closure (λ x r q k. search rules))
-      ∙ sym (units_sum ls)
+    record {
+      value =
+          sum_by_from_yields_List (λ l. l.amount) ls c.map.result c.sum.result c.sum.ensures.ran
+          (YieldsList-from_map _ (λ l. l.amount) (YieldsList-at c.map.ensures.source (YieldsList-from_slice ls (cc))) c.map.ensures.closure (λ x r q k. search rules))
+          ∙ sym (units_sum ls);
     }

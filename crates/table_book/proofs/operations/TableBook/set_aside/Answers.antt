@@ -1,9 +1,8 @@
 -- Set aside gathers the old lots and puts the fresh amount to them; it refuses as its rule says.
-use Rattle.std.proofs.Common.{length, refl, ap, ◌∙◌, arith, rules}
-use Rattle.std.proofs.lemmas.Bool.Decides.{nat_tests}
-use Rattle.book.specs.Allowance.{units, rising}
+use Rattle.std.proofs.Common.{ap, ◌∙◌, arith}
+use Rattle.book.specs.Allowance.{rising}
 use Rattle.table_book.specs.Held.{held}
-use Rattle.book.proofs.Gathering.{units-aside, rising-aside}
+use Rattle.book.proofs.Gathering.{rising-aside}
 use Rattle.table_book.proofs.operations.TableBook.set_aside.Goals as goal
 
 pub invariant_of-self-2 : goal.invariant_of-self-2
