@@ -1,7 +1,7 @@
 // Putting old lots together, in the order of their ends and with lots of equal end joined.
-ghost use Rattle.std.specs.Prelude.{◌≡◌, ◌+◌, ◌^◌, ◌<◌, ◌++◌, length, if◌then◌else◌, fold, is_ok, Err, MatchResult, nat_le};
+ghost use Rattle.std.specs.Prelude.{◌≡◌, ◌+◌, ◌^◌, ◌<◌, ◌++◌, if◌then◌else◌, is_ok, Err, MatchResult, nat_le};
 ghost use Rattle.std.specs.List.{position_or_len};
-ghost use Rattle.book.specs.Allowance.{units, as_lot, with_lot, with_capped, gathered};
+ghost use Rattle.book.specs.Allowance.{units, as_lot, with_lot, gathered};
 ghost use Rattle.table_book.specs.Held.{held};
 ghost use Rattle.table_book.specs.Room.{room_answer};
 
@@ -41,18 +41,6 @@ impl Lots {
         Ok(())
     }
 
-    // The same with an amount as a lot, 0 making none, and its end lowered to the cap where it is past it.
-    fn put(&mut self, amount: u32, end: Day, cap: Day) -> Result<(), BookFault>
-        requires { units (held self.old) + amount < 2 ^ 32 }
-        ensures answer { result ≡ room_answer (fold (with_capped cap.0) (held self.old) (as_lot amount end.0)) }
-        ensures lots { held self.new ≡ (if is_ok result then fold (with_capped cap.0) (held self.old) (as_lot amount end.0) else held self.old) }
-    {
-        if amount > 0 {
-            self.add(Lot { amount, end }.capped(cap))?;
-        }
-        Ok(())
-    }
-
     // The lots and an amount as one lot more, with each end past the cap lowered to it, and those of equal end joined,
     // if there is room.
     pub(crate) fn aside(&self, amount: u32, end: Day, cap: Day) -> Result<Lots, BookFault>
@@ -63,7 +51,9 @@ impl Lots {
         for lot in self.lots.iter() {
             next.add(lot.capped(cap))?;
         }
-        next.put(amount, end, cap)?;
+        if amount > 0 {
+            next.add(Lot { amount, end }.capped(cap))?;
+        }
         Ok(next)
     }
 }
