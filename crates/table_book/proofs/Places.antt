@@ -1,19 +1,14 @@
 -- Where one lot more goes: the first place whose lot doesn't end before it.
-use Rattle.std.proofs.Common.{◌≡◌, ℕ, suc, ◌+◌, ◌<◌, ◌≤◌, List, [], ◌∷◌, eqb, leb, false, length, get_or, set, not, refl, ap, ◌∙◌, arith}
+use Rattle.std.proofs.Common.{◌≡◌, ℕ, suc, ◌+◌, ◌<◌, ◌≤◌, List, [], ◌∷◌, eqb, leb, false, length, get_or, set, not, refl, arith}
 use Prim.Native.Nat.{zero}
 use Rattle.std.specs.List.{insert, position_or_len}
 use Rattle.std.proofs.lemmas.Bool.Decides.{nat_tests}
-use Rattle.std.proofs.lemmas.List.{set-get_or}
 use Rattle.std.proofs.lemmas.List.Sums.{prefix_len-le-length}
-use Rattle.arrayvec.specs.ArrayVec.{ArrayVec}
 use Rattle.book.specs.declared.lot.Lot.{Lot}
 use Rattle.book.specs.Allowance.{units, with_lot}
 
 abbrev pub place : ℕ → List Lot → ℕ
 place end ks = position_or_len (λ k. leb end k.end.0) ks
-
-abbrev pub the_lots : List Lot → ArrayVec Lot
-the_lots ks = record { items = ks }
 
 first : (l j : Lot) (js : List Lot) → 0 ≡ place l.end.0 (j ∷ js) → l.end.0 ≤ j.end.0
 first l j js at = grind (arith, nat_tests)
@@ -23,10 +18,6 @@ later l j js i at = grind (arith, nat_tests)
 
 pub place_within : (l : Lot) (ks : List Lot) (i : ℕ) → i ≡ place l.end.0 ks → i ≤ length ks
 place_within l ks i at = let h = prefix_len-le-length (λ k. not (leb l.end.0 k.end.0)) ks in omega arith
-
--- the lots as they were, where the one at a place is lent and not written
-pub unwritten : (ks : List Lot) (i : ℕ) (k : Lot) → k ≡ get_or ks i k → the_lots (set ks i k) ≡ the_lots ks
-unwritten ks i k e = ap the_lots (ap (set ks i) e ∙ set-get_or ks i k)
 
 -- into the lot of equal end that stands there
 pub joins : (l k : Lot) (ks : List Lot) (i : ℕ) → i ≡ place l.end.0 ks → i < length ks → k ≡ get_or ks i k → k.end.0 ≡ l.end.0 → set ks i (record { amount = k.amount + l.amount; end = k.end }) ≡ with_lot l ks
