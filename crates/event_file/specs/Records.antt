@@ -1,5 +1,6 @@
 -- What a record's 16 bytes say.
-use Rattle.std.specs.Prelude.{ℕ, Bool, true, false, cond, ◌&&◌, List, Some, None, Option, ◌==◌, slice_index}
+use Rattle.std.specs.Prelude.{◌≡◌, ℕ, Bool, true, false, cond, ◌&&◌, List, Some, None, Option, Result, ◌==◌, slice_index}
+use Rattle.std.specs.Option.{ok_or}
 use Rattle.quantities.specs.declared.unit.UnitKind.TheVariants.{Minutes, Megabytes, Messages}
 use Rattle.rules.specs.declared.call.Service.{Service}
 use Rattle.rules.specs.declared.call.Service.TheVariants.{Counted, International}
@@ -7,6 +8,7 @@ use Rattle.rules.specs.declared.call.Call.{Call}
 use Rattle.rules.specs.declared.call.Call.TheVariants as call
 use Rattle.rules.specs.declared.call.Event.{Event}
 use Rattle.event_file.specs.declared.record.Kind.{Kind}
+use Rattle.event_file.specs.declared.record.UnknownKind.{UnknownKind}
 use Rattle.event_file.specs.declared.record.Kind.TheVariants.{TopUp, Use, Restart, Switch, MegabyteOption, DayMark}
 use Rattle.event_file.specs.Layout.{le32}
 
@@ -17,6 +19,10 @@ kind_of b =
     (cond (b == 2) (Some Use)
     (cond (b == 3) (Some Restart)
     (cond (b == 4) (Some Switch) (cond (b == 5) (Some MegabyteOption) (cond (b == 6) (Some DayMark) None)))))
+
+-- The result is the kind that the byte names, or the byte, which names none.
+abbrev pub NamesKind : ℕ → Result Kind UnknownKind → Type 0
+NamesKind b r = r ≡ ok_or (kind_of b) (record { 0 = b })
 
 -- Byte 1 tells the service of a use: 1 minutes, 2 megabytes, 3 messages, 4 messages abroad; no service has another code.
 abbrev pub service_of : ℕ → Option Service

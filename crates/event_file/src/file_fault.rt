@@ -12,6 +12,14 @@ pub struct Place {
     pub offset: u32,
 }
 
+impl Place {
+    // The place that is told where no record is refused: of a wrong file, and of a refused opening.
+    pub const NO_RECORD: Place = Place {
+        index: 0,
+        offset: 0,
+    };
+}
+
 // An account's refusal, with the place of the record that asked for the call.
 #[derive(Clone, Copy)]
 pub struct PlacedFault {
@@ -51,10 +59,7 @@ impl FileFault {
         ensures value { result ≡ place_of self }
     {
         match self {
-            FileFault::WrongFile => Place {
-                index: 0,
-                offset: 0,
-            },
+            FileFault::WrongFile => Place::NO_RECORD,
             FileFault::WrongRecord(place) => place,
             FileFault::Account(_, place) => place,
         }

@@ -1,6 +1,6 @@
 // What a record's 16 bytes say: a call with its moment, or nothing where the record is wrong.
 ghost use Rattle.std.specs.Prelude.{◌≡◌, is_some};
-ghost use Rattle.event_file.specs.Records.{kind_of, service_of, record_right, decoded};
+ghost use Rattle.event_file.specs.Records.{NamesKind, service_of, record_right, decoded};
 
 use quantities::money::Sums;
 use quantities::time::Moment;
@@ -19,24 +19,31 @@ pub enum Kind {
     DayMark,
 }
 
-impl Kind {
+// A byte that names no kind of record.
+#[derive(Clone, Copy, PartialEq, Eq, Debug)]
+pub struct UnknownKind(pub u8);
+
+impl TryFrom<u8> for Kind {
+    type Error = UnknownKind;
+
+    ghost try_from_gives = { NamesKind };
+
     // The kind that a record's first byte names, if it names one.
-    pub fn of(byte: u8) -> Option<Kind>
-        ensures value { result ≡ kind_of byte }
-    {
+    fn try_from(byte: u8) -> Result<Kind, UnknownKind> {
         match byte {
-            1 => Some(Kind::TopUp),
-            2 => Some(Kind::Use),
-            3 => Some(Kind::Restart),
-            4 => Some(Kind::Switch),
-            5 => Some(Kind::MegabyteOption),
-            6 => Some(Kind::DayMark),
-            _ => None,
+            1 => Ok(Kind::TopUp),
+            2 => Ok(Kind::Use),
+            3 => Ok(Kind::Restart),
+            4 => Ok(Kind::Switch),
+            5 => Ok(Kind::MegabyteOption),
+            6 => Ok(Kind::DayMark),
+            _ => Err(UnknownKind(byte)),
         }
     }
 }
 
 // The service that a record's second byte names, if it names one.
+// No `TryFrom`: `Service` is of another crate, and a use of no service is a call as well, so that nothing is refused here.
 fn service_of(byte: u8) -> Option<Service>
     ensures value { result ≡ service_of byte }
 {
@@ -57,7 +64,7 @@ pub fn event_of(bytes: &[u8; 16]) -> Option<Event>
     let [kind, code, 0, 0, a, b, c, d, e, f, g, h, 0, 0, 0, 0] = *bytes else {
         return None;
     };
-    let kind = Kind::of(kind)?;
+    let kind = Kind::try_from(kind).ok()?;
     let amount = u32::from_le_bytes([a, b, c, d]);
     let call = match kind {
         Kind::TopUp if code == 0 => Call::TopUp(Sums(amount as u64)),
