@@ -1,8 +1,9 @@
 // The reader: hands on the records of a lent file one after another, each with its place.
-ghost use Rattle.std.specs.Prelude.{◌≡◌, ◌+◌, ◌-◌, true, [], ◌∷◌, length, if◌then◌else◌, MatchOption};
+ghost use Rattle.std.specs.Prelude.{◌≡◌, ◌-◌, true, [], length, if◌then◌else◌};
+ghost use Rattle.std.specs.Iterator.{at_most};
 ghost use Rattle.event_file.specs.Layout.{file_right, first_offset, count};
 ghost use Rattle.event_file.specs.Parts.{parts, parts_from};
-ghost use Rattle.event_file.specs.Reader.{coming, position, end, fits, placed};
+ghost use Rattle.event_file.specs.Reader.{coming, position, end, fits, HandsOn};
 
 use crate::file_fault::Place;
 use crate::records::{Part, Records};
@@ -27,26 +28,29 @@ impl<'a> Records<'a> {
     }
 
     // The offset of the next record; after the last one, of what follows it.
-    pub fn position(&self) -> u32
+    pub fn offset(&self) -> u32
         ensures value { result ≡ position self.now }
     {
         self.first + 16 * self.index
     }
+}
+
+impl<'a> Iterator for Records<'a> {
+    type Item = Part<'a>;
+
+    ghost next_gives = { HandsOn };
+
+    ghost remaining = { λ r. at_most r.left };
 
     // The next record, or none after the last.
-    pub fn next_part(&mut self) -> Option<Part<'a>>
-        ensures part { MatchOption result (coming self.old ≡ []) (λ p. coming self.old ≡ placed p ∷ coming self.new) }
-        ensures left { MatchOption result ((self.old.left ≡ 0) × (self.new.left ≡ 0)) (λ p. self.old.left ≡ self.new.left + 1) }
-        ensures position { MatchOption result (position self.new ≡ end self.old) (λ p. position self.new ≡ position self.old + 16) }
-        ensures end { end self.new ≡ end self.old }
-    {
+    fn next(&mut self) -> Option<Part<'a>> {
         if self.left == 0 {
             return None;
         }
         let index = self.index;
-        let offset = self.position();
+        let offset = self.offset();
         let bytes = self.file[offset as usize..].first_chunk::<16>()?;
-        self.index = index + 1;
+        self.index += 1;
         self.left -= 1;
         Some(Part {
             bytes,
