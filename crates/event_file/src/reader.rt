@@ -58,3 +58,9 @@ impl<'a> Iterator for Records<'a> {
         })
     }
 }
+
+impl<'a> ExactSizeIterator for Records<'a> {
+    fn len(&self) -> usize {
+        self.left as usize
+    }
+}

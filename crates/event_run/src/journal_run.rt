@@ -8,14 +8,13 @@ ghost use Rattle.event_run.specs.Journals.{Taken};
 ghost use Rattle.event_run.specs.FileLaw.{LawOfFile};
 
 use crate::journal::Journal;
+use crate::opening::open_file;
 use crate::post::post;
-use crate::run::open_by;
 use account::account::Account;
 use account::provision::Provision;
 use book::meaning::Book;
 use event_file::file_fault::FileFault;
 use event_file::records::Records;
-use event_file::trailer::Trailer;
 use tariff::line::Line;
 
 // Posts the records that are still to come, one after another; a refused record doesn't stop it.
@@ -30,28 +29,11 @@ pub fn post_records<L: Line, B: Book, J: Journal>(
     ensures read { coming records.new ≡ [] }
     ensures position { position records.new ≡ end records.old }
 {
-    while let Some(part) = records.next_part() {
+    // A `while let`: a `for` over a lent reader leaves unsaid where the reader stands after it (tried, stays open).
+    while let Some(part) = records.next() {
         let posted = post(account, part);
         journal.post(posted);
     }
-}
-
-fn post_trailed<L: Line + Drop, B: Book + Drop, J: Journal>(
-    file: &[u8],
-    provision: Provision<L, B>,
-    journal: &mut J,
-) -> Result<Account<L, B>, FileFault>
-    ensures refused { file_outcome_of result ≡ refused_file (world (L.Line.tariff provision.line) B.Book.CAPACITY) file.now }
-    ensures posted { OnOk result (Taken J.Journal.takes journal.old (file_postings (world (L.Line.tariff provision.line) B.Book.CAPACITY) file.now) journal.new) }
-    ensures account { IfOk result (λ a. Some (account_of B.Book.means a) ≡ file_closing (world (L.Line.tariff provision.line) B.Book.CAPACITY) file.now) }
-    ensures line { IfOk result (λ a. a.line ≡ provision.line) }
-    ensures same { OnErr result (journal.new ≡ journal.old) }
-{
-    let trailer = Trailer::of(file)?;
-    let mut account = open_by(trailer, provision)?;
-    let mut records = Records::over(file, trailer);
-    post_records(&mut account, &mut records, journal);
-    Ok(account)
 }
 
 // Opens the account that the file names on the line, with the books, and makes the call of each record. What became of
@@ -68,6 +50,7 @@ pub fn post_file<L: Line + Drop, B: Book + Drop, J: Journal>(
     ensures same { OnErr result (journal.new ≡ journal.old) }
     ensures law { IfOk result (λ a. LawOfFile (world (L.Line.tariff provision.line) B.Book.CAPACITY) file.now (file_postings (world (L.Line.tariff provision.line) B.Book.CAPACITY) file.now) (account_of B.Book.means a)) }
 {
-    let account = post_trailed(file, provision, journal)?;
+    let (mut account, mut records) = open_file(file, provision)?;
+    post_records(&mut account, &mut records, journal);
     Ok(account)
 }

@@ -3,6 +3,8 @@
 
 pub mod journal;
 pub mod journal_run;
+mod listing;
+mod opening;
 mod post;
 pub mod posted;
 pub mod run;

@@ -3,6 +3,7 @@ ghost use Rattle.std.specs.Prelude.{◌≡◌};
 ghost use Rattle.event_run.specs.declared.stopped.Stopped.TheVariants as stopped;
 
 use event_file::file_fault::FileFault;
+use std::alloc::AllocError;
 
 #[derive(Clone, Copy)]
 pub enum Stopped {
@@ -17,5 +18,13 @@ impl From<FileFault> for Stopped {
 
     fn from(fault: FileFault) -> Stopped {
         Stopped::Refused(fault)
+    }
+}
+
+impl From<AllocError> for Stopped {
+    ghost from_gives = { λ _ s. s ≡ stopped.NoMemory };
+
+    fn from(_error: AllocError) -> Stopped {
+        Stopped::NoMemory
     }
 }

@@ -13,10 +13,10 @@ invariant-loop-part g l =
     let takes = g.J.Journal.takes in
     let first = account_of means l.initial.account in
     let here = account_of means l.account in
-    ((y : _) → Taken takes l.journal (postings w here (coming l.records)) y → Taken takes l.initial.journal (postings w first (coming l.initial.records)) y)
-    × (closing w here (coming l.records) ≡ closing w first (coming l.initial.records))
+    ((y : _) → Taken takes l.journal (postings w here (coming l.records)) y → Taken takes l.initial.journal (postings w first (coming l.fn.records)) y)
+    × (closing w here (coming l.records) ≡ closing w first (coming l.fn.records))
     × (l.account.line ≡ l.initial.account.line)
-    × (end l.records ≡ end l.initial.records)
+    × (end l.records ≡ end l.fn.records)
 
 abbrev pub decreases-loop-part : goal.decreases-loop-part
 decreases-loop-part g l = l.records.left
