@@ -25,6 +25,14 @@ impl Table {
     }
 }
 
+impl Default for Table {
+    ghost is_default = { λ b. meaning b ≡ empty };
+
+    fn default() -> Table {
+        Table::new()
+    }
+}
+
 impl Book for Table {
     const CAPACITY: usize = MOST_LOTS;
 
