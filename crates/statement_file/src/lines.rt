@@ -11,10 +11,7 @@ use std::alloc::{AllocError, Global};
 fn number_of(outcome: Result<(), FileFault>) -> u8
     ensures value { result ≡ outcome_number (file_outcome_of outcome) }
 {
-    match outcome {
-        Ok(()) => 0,
-        Err(fault) => fault.number(),
-    }
+    outcome.err().map_or(0, FileFault::number)
 }
 
 fn posting_line(heap: Global, posted: Posted) -> Result<String, AllocError>

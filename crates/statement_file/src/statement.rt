@@ -4,6 +4,7 @@ ghost use Rattle.account.specs.Meaning.{world};
 ghost use Rattle.event_run.specs.FileLaw.{ObeysLaw};
 ghost use Rattle.statement_file.specs.Statement.{text_of_statement};
 ghost use Rattle.statement_file.specs.Untold.{Untold};
+ghost use Rattle.statement_file.specs.Reason.{reason_text};
 ghost use Rattle.statement_file.specs.declared.statement.NoStatement.TheVariants as no_statement;
 
 use crate::lines::posting_lines;
@@ -13,15 +14,30 @@ use event_run::run::run_file;
 use event_run::stopped::Stopped;
 use statement_text::line::{last_line, refused_line};
 use std::alloc::{AllocError, Global};
+use std::error::Error;
+use std::fmt;
 use tariff::line::Line;
 
 // Why there is no statement to hand out.
-#[derive(Clone, Copy)]
+#[derive(Clone, Copy, Debug)]
 pub enum NoStatement {
     // the due day has no date; no account is due on such a day
     PastCalendar,
     NoMemory,
 }
+
+impl fmt::Display for NoStatement {
+    ghost output = { λ n. Some (reason_text n) };
+
+    fn fmt<W: fmt::Write>(&self, f: &mut fmt::Formatter<W>) -> fmt::Result {
+        match self {
+            NoStatement::PastCalendar => write!(f, "the due day is past the calendar"),
+            NoStatement::NoMemory => write!(f, "no memory"),
+        }
+    }
+}
+
+impl Error for NoStatement {}
 
 impl From<AllocError> for NoStatement {
     ghost from_gives = { λ _ n. n ≡ no_statement.NoMemory };
@@ -42,9 +58,7 @@ fn written<L: Line + Drop, B: Book + Drop>(
     match run_file(heap, file, provision) {
         Ok(run) => {
             let mut text = posting_lines(heap, &run.posted)?;
-            let Some(last) = last_line(heap, run.account.status())? else {
-                return Err(NoStatement::PastCalendar);
-            };
+            let last = last_line(heap, run.account.status())?.ok_or(NoStatement::PastCalendar)?;
             text.push_str(&last)?;
             Ok(text)
         }
