@@ -1,4 +1,5 @@
-// Three new books, all of one kind.
+// Three new books, all of one kind. One generic function could say only that each is its type's default; these two say
+// that each is empty.
 ghost use Rattle.std.specs.Prelude.{◌≡◌};
 ghost use Rattle.quantities.specs.Units.{each, every};
 ghost use Rattle.book.specs.Allowance.{empty};
@@ -13,20 +14,12 @@ use table_book::table::Table;
 pub fn table_books() -> PerUnit<Table>
     ensures { each (λ k b. table_meaning b) result ≡ every empty }
 {
-    PerUnit {
-        minutes: Table::new(),
-        megabytes: Table::new(),
-        messages: Table::new(),
-    }
+    PerUnit::<Table>::default()
 }
 
 // With room for one old lot each.
 pub fn small_books() -> PerUnit<Small>
     ensures { each (λ k b. small_meaning b) result ≡ every empty }
 {
-    PerUnit {
-        minutes: Small::new(),
-        megabytes: Small::new(),
-        messages: Small::new(),
-    }
+    PerUnit::<Small>::default()
 }

@@ -1,9 +1,8 @@
 // Prints, for each event file that its arguments name, the totals of all receipts and how the account ends.
 #![tactic(auto)]
 
-use anyhow::anyhow;
-use event_run::posted::Posted;
-use event_run::run::run_file;
+use account::provision::Provision;
+use anyhow::Context;
 use plans::three_lines::three_lines;
 use quantities::unit::PerUnit;
 use receipt::receipt::Receipt;
@@ -11,32 +10,24 @@ use receipt::tally::Tally;
 use statement_text::line::last_line;
 use std::{env, fs};
 use table_book::table::Table;
-
-fn total_of(posted: &[Posted]) -> Receipt {
-    let mut total = Receipt::nothing();
-    for record in posted {
-        total = total.plus(record.receipt);
-    }
-    total
-}
+use totals::life::life_of_file;
 
 fn print_tally<K>(rt: &HostRuntime, unit: &str, tally: Tally<K>) -> anyhow::Result<()> {
-    let granted = tally.granted.number;
-    let within = tally.within.number;
-    let beyond = tally.beyond.number;
-    let ended = tally.ended.number;
-    let late = tally.late.number;
-    let restart = tally.wiped_by_restart.number;
-    let switch = tally.wiped_by_switch.number;
-    println!(rt; "{unit} {granted} {within} {beyond} {ended} {late} {restart} {switch}")?;
+    println!(rt;
+        "{unit} {} {} {} {} {} {} {}",
+        tally.granted,
+        tally.within,
+        tally.beyond,
+        tally.ended,
+        tally.late,
+        tally.wiped_by_restart,
+        tally.wiped_by_switch
+    )?;
     Ok(())
 }
 
 fn print_totals(rt: &HostRuntime, total: Receipt) -> anyhow::Result<()> {
-    let fees = total.fees.0;
-    let uses = total.use_charges.0;
-    let switches = total.switch_charges.0;
-    println!(rt; "sums {fees} {uses} {switches}")?;
+    println!(rt; "sums {} {} {}", total.fees, total.use_charges, total.switch_charges)?;
     print_tally(rt, "minutes", total.minutes)?;
     print_tally(rt, "megabytes", total.megabytes)?;
     print_tally(rt, "messages", total.messages)
@@ -44,22 +35,16 @@ fn print_totals(rt: &HostRuntime, total: Receipt) -> anyhow::Result<()> {
 
 fn print_life(rt: &HostRuntime, name: &str) -> anyhow::Result<()> {
     let file = fs::read(rt, name)?;
-    let books = PerUnit {
-        minutes: Table::new(),
-        megabytes: Table::new(),
-        messages: Table::new(),
-    };
     println!(rt; "{name}")?;
-    let Ok(run) = run_file(rt.alloc(), &file, three_lines(), books) else {
-        return Err(anyhow!("no run"));
+    let provision = Provision {
+        line: three_lines(),
+        books: PerUnit::<Table>::default(),
     };
-    print_totals(rt, total_of(&run.posted))?;
-    let balance = run.account.balance().0;
-    println!(rt; "balance {balance}")?;
-    match last_line(rt.alloc(), run.account.status())? {
-        Some(line) => rt.print(line)?,
-        None => return Err(anyhow!("the due day is past the calendar")),
-    }
+    let life = life_of_file(&file, provision).ok().context("no run")?;
+    print_totals(rt, life.total)?;
+    println!(rt; "balance {}", life.account.balance())?;
+    let last = last_line(rt.alloc(), life.account.status())?;
+    rt.print(last.context("the due day is past the calendar")?)?;
     Ok(())
 }
 

@@ -1,46 +1,24 @@
 // Prints the statement of each event file that its arguments name, under the file's name, on table books or small ones.
 #![tactic(auto)]
 
-use anyhow::anyhow;
+use account::provision::Provision;
 use book::meaning::Book;
 use plans::three_lines::three_lines;
 use quantities::unit::PerUnit;
 use small_book::small::Small;
-use statement_file::statement::{NoStatement, statement};
+use statement_file::statement::statement;
 use std::{env, fs};
 use table_book::table::Table;
 
-fn print_statement<B: Book + Drop>(
-    rt: &HostRuntime,
-    name: &str,
-    books: PerUnit<B>,
-) -> anyhow::Result<()> {
+fn print_statement<B: Book + Default + Drop>(rt: &HostRuntime, name: &str) -> anyhow::Result<()> {
     let file = fs::read(rt, name)?;
     println!(rt; "{name}")?;
-    match statement(rt.alloc(), &file, three_lines(), books) {
-        Ok(text) => rt.print(text)?,
-        Err(NoStatement::PastCalendar) => return Err(anyhow!("the due day is past the calendar")),
-        Err(NoStatement::NoMemory) => return Err(anyhow!("no memory")),
-    }
+    let provision = Provision {
+        line: three_lines(),
+        books: PerUnit::<B>::default(),
+    };
+    rt.print(statement(rt.alloc(), &file, provision)?)?;
     Ok(())
-}
-
-fn print_with_table_books(rt: &HostRuntime, name: &str) -> anyhow::Result<()> {
-    let books = PerUnit {
-        minutes: Table::new(),
-        megabytes: Table::new(),
-        messages: Table::new(),
-    };
-    print_statement(rt, name, books)
-}
-
-fn print_with_small_books(rt: &HostRuntime, name: &str) -> anyhow::Result<()> {
-    let books = PerUnit {
-        minutes: Small::new(),
-        megabytes: Small::new(),
-        messages: Small::new(),
-    };
-    print_statement(rt, name, books)
 }
 
 // A file whose name begins so is run on small books.
@@ -49,9 +27,9 @@ const SMALL: &str = "small-";
 fn print_all(rt: &HostRuntime) -> anyhow::Result<()> {
     for name in env::args(rt)?.skip(1) {
         if name.starts_with(SMALL) {
-            print_with_small_books(rt, &name)?;
+            print_statement::<Small>(rt, &name)?;
         } else {
-            print_with_table_books(rt, &name)?;
+            print_statement::<Table>(rt, &name)?;
         }
     }
     Ok(())
