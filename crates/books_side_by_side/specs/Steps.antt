@@ -4,20 +4,21 @@ use Rattle.book.specs.declared.fault.BookFault.{BookFault}
 use Rattle.book.specs.Allowance.{Allowance, units, empty, fill_answer, filled, draw_answer, drawn, ended, lapsed, carried, aside, aside_answer}
 use Rattle.books_side_by_side.specs.declared.steps.Step.{Step}
 use Rattle.books_side_by_side.specs.declared.steps.Step.TheVariants.{Fill, Draw, Lapse, Carry, Clear, SetAside}
-use Rattle.books_side_by_side.specs.declared.steps.Answer.{Answer}
-use Rattle.books_side_by_side.specs.declared.steps.Answer.TheVariants.{Accepted, Refused, Units, Emptied}
+use Rattle.books_side_by_side.specs.declared.steps.Told.{Told}
+use Rattle.books_side_by_side.specs.declared.steps.Told.TheVariants.{Accepted, Units, Emptied}
 use Rattle.books_side_by_side.specs.declared.steps.Look.{Look}
 
-abbrev pub told : Result Unit BookFault → Answer
-told (Ok u) = Accepted
-told (Err f) = Refused f
+-- A book that accepts a step and has nothing to count tells that it accepted it.
+abbrev pub told : Result Unit BookFault → Result Told BookFault
+told (Ok u) = Ok Accepted
+told (Err f) = Err f
 
-abbrev pub answered : ℕ → Step → Allowance → Answer
+abbrev pub answered : ℕ → Step → Allowance → Result Told BookFault
 answered C (Fill n) b = told (fill_answer n b)
-answered C (Draw n) b = Units (draw_answer n b)
-answered C (Lapse d) b = Units (units (ended d.0 b.lots))
-answered C (Carry e) b = Units (units b.lots)
-answered C Clear b = Emptied (record { old = units b.lots; fresh = b.fresh })
+answered C (Draw n) b = Ok (Units (draw_answer n b))
+answered C (Lapse d) b = Ok (Units (units (ended d.0 b.lots)))
+answered C (Carry e) b = Ok (Units (units b.lots))
+answered C Clear b = Ok (Emptied (record { old = units b.lots; fresh = b.fresh }))
 answered C (SetAside e c) b = told (aside_answer C e.0 c.0 b)
 
 abbrev pub performed : ℕ → Step → Allowance → Allowance
@@ -38,5 +39,5 @@ seen b = record {
 }
 
 -- set aside with end 45 and cap 90 after a lapse on day 44
-abbrev pub asked : ℕ → Allowance → Answer
+abbrev pub asked : ℕ → Allowance → Result Told BookFault
 asked C b = told (aside_answer C 45 90 (lapsed 44 b))

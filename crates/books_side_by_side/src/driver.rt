@@ -1,9 +1,8 @@
 // The driver: one step on any book, and the questions to any book.
 ghost use Rattle.std.specs.Prelude.{◌≡◌};
-ghost use Rattle.books_side_by_side.specs.Steps.{told, answered, performed, seen, asked};
+ghost use Rattle.books_side_by_side.specs.Steps.{answered, performed, seen, asked};
 
-use crate::steps::{Answer, Look, Step};
-use book::fault::BookFault;
+use crate::steps::{Answer, Look, Side, Step, Told};
 use book::meaning::Book;
 use quantities::time::Day;
 
@@ -18,30 +17,27 @@ const END: Day = Day(45);
 
 const CAP: Day = Day(90);
 
-fn tell(answer: Result<(), BookFault>) -> Answer
-    ensures value { result ≡ told answer }
-{
-    match answer {
-        Ok(()) => Answer::Accepted,
-        Err(fault) => Answer::Refused(fault),
-    }
-}
-
 pub fn perform<B: Book>(book: &mut B, step: Step) -> Answer
     ensures answer { result ≡ answered B.Book.CAPACITY step (B.Book.means book.old) }
     ensures book { B.Book.means book.new ≡ performed B.Book.CAPACITY step (B.Book.means book.old) }
 {
-    match step {
-        Step::Fill(n) => tell(book.fill(n)),
-        Step::Draw(n) => Answer::Units(book.draw(n).taken),
-        Step::Lapse(day) => Answer::Units(book.lapse(day)),
-        Step::Carry(end) => Answer::Units(book.carry(end)),
-        Step::Clear => Answer::Emptied(book.clear()),
-        Step::SetAside(end, cap) => tell(book.set_aside(end, cap)),
-    }
+    Ok(match step {
+        Step::Fill(n) => {
+            book.fill(n)?;
+            Told::Accepted
+        }
+        Step::Draw(n) => Told::Units(book.draw(n).taken),
+        Step::Lapse(day) => Told::Units(book.lapse(day)),
+        Step::Carry(end) => Told::Units(book.carry(end)),
+        Step::Clear => Told::Emptied(book.clear()),
+        Step::SetAside(end, cap) => {
+            book.set_aside(end, cap)?;
+            Told::Accepted
+        }
+    })
 }
 
-pub fn look<B: Book>(book: &B) -> Look
+fn look<B: Book>(book: &B) -> Look
     ensures value { result ≡ seen (B.Book.means book.now) }
 {
     Look {
@@ -53,8 +49,22 @@ pub fn look<B: Book>(book: &B) -> Look
 }
 
 // What set aside would answer after a lapse.
-pub fn ask<B: Book>(book: &B) -> Answer
+fn ask<B: Book>(book: &B) -> Answer
     ensures value { result ≡ asked B.Book.CAPACITY (B.Book.means book.now) }
 {
-    tell(book.set_aside_after(LATER, END, CAP))
+    book.set_aside_after(LATER, END, CAP)?;
+    Ok(Told::Accepted)
+}
+
+// The book's side after a step that it answered so.
+pub fn side<B: Book>(answer: Answer, book: &B) -> Side
+    ensures answer { result.answer ≡ answer }
+    ensures look { result.look ≡ seen (B.Book.means book.now) }
+    ensures aside { result.aside ≡ asked B.Book.CAPACITY (B.Book.means book.now) }
+{
+    Side {
+        answer,
+        look: look(book),
+        aside: ask(book),
+    }
 }

@@ -8,7 +8,7 @@ mod shown;
 mod steps;
 mod together;
 
-use crate::driver::{ask, look};
+use crate::driver::side;
 use crate::script::{CAPS, FULL, HOARD, MONTHS};
 use crate::steps::Step;
 use crate::together::Pair;
@@ -17,22 +17,16 @@ use std::io;
 
 fn show(rt: &HostRuntime, pair: &mut Pair, step: Step) -> io::Result<()> {
     let answers = pair.take(step);
-    let table = answers.table;
-    let small = answers.small;
-    let in_table = look(&pair.table);
-    let in_small = look(&pair.small);
-    let table_aside = ask(&pair.table);
-    let small_aside = ask(&pair.small);
+    let table = side(answers.table, &pair.table);
+    let small = side(answers.small, &pair.small);
     let verdict = if !pair.compared {
         "apart"
-    } else if in_table == in_small {
+    } else if table.look == small.look {
         "same"
     } else {
         "differ"
     };
-    println!(rt;
-        "{step} | table {table} {in_table} aside {table_aside} | small {small} {in_small} aside {small_aside} | {verdict}"
-    )
+    println!(rt; "{step} | table {table} | small {small} | {verdict}")
 }
 
 fn show_all(rt: &HostRuntime, pair: &mut Pair, steps: &[Step]) -> io::Result<()> {

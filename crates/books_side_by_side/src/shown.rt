@@ -1,65 +1,74 @@
-// How steps, answers and looks are printed.
-use crate::steps::{Answer, Look, Step};
-use book::fault::BookFault;
+// How steps and the sides of a pair are printed.
+ghost use Rattle.std.specs.Prelude.{Some};
+ghost use Rattle.books_side_by_side.specs.Shown.{step_text, told_text, answer_text, look_text, side_text};
+
+use crate::steps::{Answer, Look, Side, Step, Told};
 use std::fmt;
 
 impl fmt::Display for Step {
+    ghost output = { λ s. Some (step_text s) };
+
     fn fmt<W: fmt::Write>(&self, f: &mut fmt::Formatter<W>) -> fmt::Result {
-        match *self {
+        match self {
             Step::Fill(n) => write!(f, "fill {n}"),
             Step::Draw(n) => write!(f, "draw {n}"),
-            Step::Lapse(day) => {
-                let day = day.0;
-                write!(f, "lapse {day}")
-            }
-            Step::Carry(end) => {
-                let end = end.0;
-                write!(f, "carry {end}")
-            }
+            Step::Lapse(day) => write!(f, "lapse {}", day.0),
+            Step::Carry(end) => write!(f, "carry {}", end.0),
             Step::Clear => write!(f, "clear"),
-            Step::SetAside(end, cap) => {
-                let end = end.0;
-                let cap = cap.0;
-                write!(f, "set-aside {end} {cap}")
-            }
+            Step::SetAside(end, cap) => write!(f, "set-aside {} {}", end.0, cap.0),
         }
     }
 }
 
-fn reason(fault: BookFault) -> &'static str {
-    match fault {
-        BookFault::NotEmpty => "not-empty",
-        BookFault::TooLarge => "too-large",
-        BookFault::TooManyLots => "too-many-lots",
-        BookFault::TooManyUnits => "too-many-units",
+impl fmt::Display for Told {
+    ghost output = { λ t. Some (told_text t) };
+
+    fn fmt<W: fmt::Write>(&self, f: &mut fmt::Formatter<W>) -> fmt::Result {
+        match self {
+            Told::Accepted => write!(f, "ok"),
+            Told::Units(n) => write!(f, "{n}"),
+            Told::Emptied(cleared) => write!(f, "{} {}", cleared.old, cleared.fresh),
+        }
     }
 }
 
-impl fmt::Display for Answer {
+// An answer, shown as what is told, or as the number and the reason of a refusal.
+#[derive(Clone, Copy)]
+struct WrittenAnswer {
+    answer: Answer,
+}
+
+impl fmt::Display for WrittenAnswer {
+    ghost output = { λ w. Some (answer_text w.answer) };
+
     fn fmt<W: fmt::Write>(&self, f: &mut fmt::Formatter<W>) -> fmt::Result {
-        match *self {
-            Answer::Accepted => write!(f, "ok"),
-            Answer::Refused(fault) => {
-                let number = fault.number();
-                let reason = reason(fault);
-                write!(f, "refused {number} {reason}")
-            }
-            Answer::Units(n) => write!(f, "{n}"),
-            Answer::Emptied(cleared) => {
-                let old = cleared.old;
-                let fresh = cleared.fresh;
-                write!(f, "{old} {fresh}")
-            }
+        match self.answer {
+            Ok(told) => write!(f, "{told}"),
+            Err(fault) => write!(f, "refused {} {fault}", fault.number()),
         }
     }
 }
 
 impl fmt::Display for Look {
+    ghost output = { λ l. Some (look_text l) };
+
     fn fmt<W: fmt::Write>(&self, f: &mut fmt::Formatter<W>) -> fmt::Result {
-        let fresh = self.fresh;
-        let old = self.old;
-        let old_later = self.old_later;
-        let old_last = self.old_last;
-        write!(f, "fresh {fresh} old {old} {old_later} {old_last}")
+        write!(
+            f,
+            "fresh {} old {} {} {}",
+            self.fresh, self.old, self.old_later, self.old_last
+        )
+    }
+}
+
+impl fmt::Display for Side {
+    ghost output = { λ s. Some (side_text s) };
+
+    fn fmt<W: fmt::Write>(&self, f: &mut fmt::Formatter<W>) -> fmt::Result {
+        let answer = WrittenAnswer {
+            answer: self.answer,
+        };
+        let aside = WrittenAnswer { answer: self.aside };
+        write!(f, "{answer} {} aside {aside}", self.look)
     }
 }

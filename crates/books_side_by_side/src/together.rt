@@ -18,7 +18,8 @@ pub struct Pair {
     pub compared: bool,
 }
 
-// What the two books answered.
+// What the two books answered. One generic pair for books and answers would need a type for each side, and every clause
+// on a book a step more, as `pair.books.table`.
 #[derive(Clone, Copy)]
 pub struct Answers {
     pub table: Answer,
