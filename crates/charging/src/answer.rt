@@ -21,8 +21,5 @@ impl HostFault {
 pub(crate) fn answer(res: Result<(), HostFault>) -> u32
     ensures value { result ≡ answer_of res }
 {
-    match res {
-        Ok(()) => 0,
-        Err(fault) => fault.number(),
-    }
+    res.err().map_or(0, HostFault::number)
 }

@@ -11,6 +11,7 @@ ghost use Rattle.charging.specs.Answers.{answer_of, life_columns, totals_answer,
 use crate::host_fault::HostFault;
 use crate::place::put;
 use crate::row::{receipt_row, state_row};
+use account::provision::Provision;
 use book::meaning::Book;
 use plans::three_lines::{ThreeLines, three_lines};
 use quantities::unit::PerUnit;
@@ -39,7 +40,11 @@ pub(crate) fn write_totals<B: Book + Drop>(
     if out.len() < LIFE_COLUMNS {
         return Err(HostFault::TooShort);
     }
-    let life = life_of_file(file, three_lines(), books)?;
+    let provision = Provision {
+        line: three_lines(),
+        books,
+    };
+    let life = life_of_file(file, provision)?;
     put_life(&life, out);
     Ok(())
 }

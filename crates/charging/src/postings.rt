@@ -9,6 +9,7 @@ ghost use Rattle.charging.specs.Answers.{answer_of, file_number, posting_columns
 use crate::host_fault::HostFault;
 use crate::posting::POSTING_COLUMNS;
 use crate::rows::Rows;
+use account::provision::Provision;
 use book::meaning::Book;
 use event_file::trailer::Trailer;
 use event_run::journal_run::post_file;
@@ -27,7 +28,11 @@ fn run_onto<B: Book + Drop>(
     ensures long { length rows.new.rows.now ≡ length rows.old.rows.now }
     ensures rows { rows.new.rows.now ≡ (if is_ok result then overlaid 0 (posting_rows (file_postings (three_lines B.Book.CAPACITY) file.now)) rows.old.rows.now else rows.old.rows.now) }
 {
-    let _ = post_file(file, three_lines(), books, rows)?;
+    let provision = Provision {
+        line: three_lines(),
+        books,
+    };
+    let _ = post_file(file, provision, rows)?;
     Ok(())
 }
 
