@@ -1,4 +1,4 @@
-// The number that a host is answered.
+// The number that a host is answered, since a host in C takes a number.
 ghost use Rattle.std.specs.Prelude.{◌≡◌};
 ghost use Rattle.charging.specs.Answers.{host_number, answer_of};
 

@@ -18,6 +18,7 @@ use quantities::unit::UnitKind;
 // How many numbers a row of a posting has.
 pub(crate) const POSTING_COLUMNS: usize = 30;
 
+// A number, since a host in C reads it in a row of numbers.
 fn unit_number(unit: UnitKind) -> u64
     ensures { result ≡ unit_number unit }
 {
@@ -28,6 +29,7 @@ fn unit_number(unit: UnitKind) -> u64
     }
 }
 
+// A number, since a host in C reads it in a row of numbers.
 fn reason_number(fault: BookFault) -> u64
     ensures { result ≡ reason_number fault }
 {
@@ -42,15 +44,16 @@ fn reason_number(fault: BookFault) -> u64
 fn outcome_row(outcome: Result<(), FileFault>) -> [u64; 3]
     ensures { result ≡ outcome_row (file_outcome_of outcome) }
 {
-    match outcome {
-        Ok(()) => [0, 0, 0],
-        Err(FileFault::Account(Fault::Book(refused), _)) => [
-            12,
-            unit_number(refused.unit),
-            reason_number(refused.fault),
-        ],
-        Err(fault) => [fault.number() as u64, 0, 0],
-    }
+    let Err(fault) = outcome else {
+        return [0, 0, 0];
+    };
+    let (unit, reason) = match fault {
+        FileFault::Account(Fault::Book(refused), _) => {
+            (unit_number(refused.unit), reason_number(refused.fault))
+        }
+        _ => (0, 0),
+    };
+    [fault.number() as u64, unit, reason]
 }
 
 fn put_posting(out: &mut [u64], at: usize, posted: Posted)
@@ -68,11 +71,9 @@ impl<'a> Journal for Rows<'a> {
     ghost takes = { Takes };
 
     fn post(&mut self, posted: Posted) {
-        if self.rows.len().saturating_sub(self.used) < POSTING_COLUMNS {
-            return;
+        if self.rows.len().saturating_sub(self.used) >= POSTING_COLUMNS {
+            put_posting(self.rows, self.used, posted);
+            self.used += POSTING_COLUMNS;
         }
-        let used = self.used;
-        put_posting(self.rows, used, posted);
-        self.used = used + POSTING_COLUMNS;
     }
 }

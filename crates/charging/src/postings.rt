@@ -22,7 +22,8 @@ fn run_onto<B: Book + Drop>(
     books: PerUnit<B>,
     rows: &mut Rows<'_>,
 ) -> Result<(), HostFault>
-    requires { (rows.old.used ≡ 0) × ((file_right file.now ≡ true → posting_columns * count file.now ≤ length rows.old.rows.now)) }
+    requires empty { rows.old.used ≡ 0 }
+    requires room { file_right file.now ≡ true → posting_columns * count file.now ≤ length rows.old.rows.now }
     ensures answer { answer_of result ≡ file_number (refused_file (three_lines B.Book.CAPACITY) file.now) }
     ensures lent { rows.new.rows.ghost_name ≡ rows.old.rows.ghost_name }
     ensures long { length rows.new.rows.now ≡ length rows.old.rows.now }

@@ -5,6 +5,7 @@ ghost use Rattle.receipt.specs.Columns.{tally_of, receipt_of};
 ghost use Rattle.account.specs.Meaning.{account_of};
 ghost use Rattle.charging.specs.Rows.{tally_row, receipt_row, status_row, state_row};
 
+use crate::place::put;
 use account::account::Account;
 use book::meaning::Book;
 use quantities::unit::UnitKind;
@@ -30,35 +31,20 @@ fn tally_row<K>(tally: Tally<K>) -> [u64; 7]
 pub(crate) fn receipt_row(receipt: Receipt) -> [u64; 24]
     ensures { result ≡ receipt_row (receipt_of receipt) }
 {
-    let [a, b, c, d, e, f, g] = tally_row(receipt.minutes);
-    let [h, i, j, k, l, m, n] = tally_row(receipt.megabytes);
-    let [o, p, q, r, s, t, u] = tally_row(receipt.messages);
-    [
-        receipt.fees.0,
-        receipt.use_charges.0,
-        receipt.switch_charges.0,
-        a,
-        b,
-        c,
-        d,
-        e,
-        f,
-        g,
-        h,
-        i,
-        j,
-        k,
-        l,
-        m,
-        n,
-        o,
-        p,
-        q,
-        r,
-        s,
-        t,
-        u,
-    ]
+    let mut row = [0; 24];
+    put(
+        &mut row,
+        0,
+        &[
+            receipt.fees.0,
+            receipt.use_charges.0,
+            receipt.switch_charges.0,
+        ],
+    );
+    put(&mut row, 3, &tally_row(receipt.minutes));
+    put(&mut row, 10, &tally_row(receipt.megabytes));
+    put(&mut row, 17, &tally_row(receipt.messages));
+    row
 }
 
 fn status_row(status: Status) -> [u64; 2]

@@ -30,12 +30,11 @@ returns g c =
     let rows = c.args.rows.now in
     let ps = file_postings w file in
     let told = c.in_ok-post_file.ensures in
-    let (empty, room) = c.requires in
-    let fits = room (right_file w file told.refused) in
+    let fits = c.requires.room (right_file w file told.refused) in
     let rowed = rows_taken rows ps c.post_file.new.journal (omega (arith, postings-few w file)) told.posted in
     record {
       answer = ap file_number told.refused;
       lent = rowed.same;
       long = rowed.long;
-      rows = rowed.holds ∙ ap (λ i. overlaid i (posting_rows ps) rows.rows.now) empty;
+      rows = rowed.holds ∙ ap (λ i. overlaid i (posting_rows ps) rows.rows.now) c.requires.empty;
     }
