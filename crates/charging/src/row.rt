@@ -31,16 +31,14 @@ fn tally_row<K>(tally: Tally<K>) -> [u64; 7]
 pub(crate) fn receipt_row(receipt: Receipt) -> [u64; 24]
     ensures { result ≡ receipt_row (receipt_of receipt) }
 {
+    let Receipt {
+        fees,
+        use_charges,
+        switch_charges,
+        ..
+    } = receipt;
     let mut row = [0; 24];
-    put(
-        &mut row,
-        0,
-        &[
-            receipt.fees.0,
-            receipt.use_charges.0,
-            receipt.switch_charges.0,
-        ],
-    );
+    put(&mut row, 0, &[fees.0, use_charges.0, switch_charges.0]);
     put(&mut row, 3, &tally_row(receipt.minutes));
     put(&mut row, 10, &tally_row(receipt.megabytes));
     put(&mut row, 17, &tally_row(receipt.messages));

@@ -3,7 +3,5 @@ use Rattle.account.specs.Meaning.{world}
 use Rattle.event_run.proofs.FileLaws.{obeys_law}
 use Rattle.statement_file.proofs.statement.statement.Goals as goal
 
-pub returns : goal.returns
-returns g c =
-    let w = world (g.L.Line.tariff c.args.provision.line) g.B.Book.CAPACITY in
-    record { text = c.written.ensures.text; untold = c.written.ensures.untold; law = obeys_law w c.args.file.now }
+pub returns-clause-law : goal.returns-clause-law
+returns-clause-law g c = obeys_law (world (g.L.Line.tariff c.args.provision.line) g.B.Book.CAPACITY) c.args.file.now
