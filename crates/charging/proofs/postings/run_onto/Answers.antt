@@ -1,27 +1,12 @@
--- What the run posts stands in the rows; a refused file leaves them.
-use Rattle.std.proofs.Common.{length, ap, ◌∙◌, arith}
-use Rattle.std.proofs.lemmas.Result.{err_from_is_err_and}
+-- What the run posts stands in the rows.
+use Rattle.std.proofs.Common.{ap, ◌∙◌, arith}
 use Rattle.event_run.specs.Postings.{file_postings}
 use Rattle.totals.proofs.Sums.{postings-few, right_file}
 use Rattle.carrier.specs.World.{three_lines}
-use Rattle.charging.specs.declared.rows.Rows.{Rows}
 use Rattle.charging.specs.Answers.{file_number}
 use Rattle.charging.specs.Rows.{overlaid, posting_rows}
-use Rattle.charging.proofs.Answering.{told_number}
 use Rattle.charging.proofs.PostingRows.{rows_taken}
 use Rattle.charging.proofs.postings.run_onto.Goals as goal
-
-pub returns-in_err-post_file : goal.returns-in_err-post_file
-returns-in_err-post_file g c =
-    let p = err_from_is_err_and c.from_residual.result c.from_residual.ensures.1 in
-    let told = c.in_err-post_file.ensures in
-    rw (p.1, p.2)
-    record {
-      answer = told_number c.in_err-post_file.field-0.0 ∙ ap file_number told.refused;
-      lent = ap (λ (r : Rows). r.rows.ghost_name) told.same;
-      long = ap (λ (r : Rows). length r.rows.now) told.same;
-      rows = ap (λ (r : Rows). r.rows.now) told.same;
-    }
 
 pub returns : goal.returns
 returns g c =

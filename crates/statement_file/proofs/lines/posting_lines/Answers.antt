@@ -1,6 +1,6 @@
--- A turn adds the line of its record, and after the last turn there are the lines of all.
+-- A turn adds the line of its record.
 use Rattle.std.proofs.Common.{◌++◌, map, take, sym, ap, ◌∙◌}
-use Rattle.std.proofs.lemmas.List.{take_more, take_all}
+use Rattle.std.proofs.lemmas.List.{take_more}
 use Rattle.std.proofs.lemmas.Slice.{pushed}
 use Rattle.event_run.specs.Coded.{posting_of}
 use Rattle.statement_file.specs.Statement.{postings_text}
@@ -17,7 +17,3 @@ loop-posted-preserved c =
     ∙ ap (λ text. postings_text (map posting_of before) ++ text) line
     ∙ sym (postings_text_push before _)
     ∙ ap (λ ps. postings_text (map posting_of ps)) (sym (take_more list i _ c.loop-posted-test.true))
-
-pub returns : goal.returns
-returns c =
-    record { text = c.loop-posted.invariant ∙ ap (λ ps. postings_text (map posting_of ps)) (take_all _ _ c.loop-posted-test.false) }
