@@ -8,8 +8,8 @@ use receipt::receipt::Receipt;
 use rules::call::Status;
 use std::alloc::{AllocError, Global};
 
-// A refusal comes as its number, which is all that a line tells of it: the kinds of refusal stand in crates beside this one.
 // The line of a record: its index, its refusal's number or 0, what its call took by its receipt, and the balance after it.
+// A refusal comes as its number, which is all that a line tells of it: the kinds of refusal stand in crates beside this one.
 pub fn record_line(
     heap: Global,
     index: u32,
