@@ -54,6 +54,7 @@ impl Lots {
         ensures fewer { units (held result) ≤ units (held self.now) }
         ensures ordered { rising 0 (held self.now) ≡ true → rising 0 (held result) ≡ true }
     {
+        // a loop, since collecting into fixed room could fail, and this can't
         let mut lots = ArrayVec::new();
         for lot in self.lots.iter() {
             if !lot.ended_by(day) {
@@ -77,6 +78,7 @@ impl Lots {
             }
             emptied += 1;
         }
+        // all at once, so that the lots behind them move only once
         self.lots.drain(..emptied);
         n - left
     }
