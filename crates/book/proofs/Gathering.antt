@@ -56,10 +56,6 @@ units-gathered c ls = let h = units_all c [] ls in omega arith
 pub length-gathered : (c : ℕ) (ls : List Lot) → length (gathered c ls) ≤ length ls
 length-gathered c ls = let h = length_all c [] ls in omega arith
 
--- the fresh amount put to old lots that are gathered already
-pub last_put : (n e c : ℕ) (ks ls : List Lot) → ks ≡ gathered c ls → fold (with_capped c) ks (as_lot n e) ≡ gathered c (ls ++ as_lot n e)
-last_put n e c ks ls h = ap (λ js. fold (with_capped c) js (as_lot n e)) h ∙ sym (all_append c [] ls (as_lot n e))
-
 pub units-aside : (n e c : ℕ) (ls : List Lot) → units (gathered c (ls ++ as_lot n e)) ≡ units ls + n
 units-aside n e c ls =
     ap units (all_append c [] ls (as_lot n e))

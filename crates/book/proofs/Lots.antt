@@ -11,12 +11,6 @@ pub units-append : (ks ls : List Lot) → units (ks ++ ls) ≡ units ks + units 
 units-append [] ls = omega arith
 units-append (k ∷ ks) ls = let h = units-append ks ls in omega arith
 
-pub units_rest : (ls : List Lot) (i : ℕ) → units (drop i ls) ≤ units ls
-units_rest ls i =
-    let h = units-append (take i ls) (drop i ls) in
-    let e = ap units (take-append-drop i ls) in
-    omega arith
-
 pub units_kept : (p : Lot → Bool) (ls : List Lot) → units (filter p ls) ≤ units ls
 units_kept p [] = omega arith
 units_kept p (l ∷ ls) =
