@@ -5,7 +5,7 @@ ghost use Rattle.book.specs.Allowance.{left, empty, aside};
 ghost use Rattle.rules.specs.Receipt.{none};
 ghost use Rattle.rules.specs.Calls.{wipe_or_keep};
 ghost use Rattle.receipt.specs.Columns.{tally_of, receipt_of, Below, AllBelow};
-ghost use Rattle.ledger.specs.Meaning.{state_of, out};
+ghost use Rattle.ledger.specs.Meaning.{state_of, FollowsRule};
 ghost use Rattle.receipt.specs.Wiping.{wiping};
 ghost use Rattle.account.specs.Leaving.{keep_refusal, keep_concern};
 
@@ -41,7 +41,7 @@ pub(crate) fn leave_books<B: Book>(
     cap: Day,
 ) -> Receipt
     requires { keep_concern B.Book.CAPACITY end.0 cap.0 wiped (state_of B.Book.means ledger.old).books ≡ none_told }
-    ensures does { out (state_of B.Book.means ledger.new) (receipt_of result) ≡ wipe_or_keep (wiping cause) (λ k. of k wiped) end.0 cap.0 (state_of B.Book.means ledger.old) }
+    ensures does { FollowsRule B.Book.means (wipe_or_keep (wiping cause) (λ k. of k wiped) end.0 cap.0) ledger.old ledger.new result }
     ensures small { AllBelow (2 ^ 34) (receipt_of result) }
 {
     let minutes = wipe_or_keep(&mut ledger.books.minutes, cause, wiped.minutes, end, cap);

@@ -11,7 +11,7 @@ ghost use Rattle.rules.specs.Gregorian.{gregorian};
 ghost use Rattle.rules.specs.declared.call.Status.TheVariants.{Active as active};
 ghost use Rattle.rules.specs.declared.call.Call.TheVariants.{Switch as switch_call};
 ghost use Rattle.receipt.specs.Columns.{tally_of, receipt_of, Below, AllBelow};
-ghost use Rattle.ledger.specs.Meaning.{state_of, out};
+ghost use Rattle.ledger.specs.Meaning.{state_of, FollowsRule};
 ghost use Rattle.account.specs.Leaving.{restart_concern, leave_concern};
 ghost use Rattle.account.specs.Meaning.{world};
 
@@ -71,7 +71,7 @@ fn pay<B: Book>(ledger: &mut Ledger<B>, cost: Sums)
 }
 
 fn serve<B: Book>(ledger: &mut Ledger<B>, service: Option<Service>, n: u32) -> Receipt
-    ensures does { out (state_of B.Book.means ledger.new) (receipt_of result) ≡ served service n (state_of B.Book.means ledger.old) }
+    ensures does { FollowsRule B.Book.means (served service n) ledger.old ledger.new result }
     ensures small { AllBelow (2 ^ 46) (receipt_of result) }
 {
     let terms = ledger.terms;
@@ -119,7 +119,7 @@ fn serve<B: Book>(ledger: &mut Ledger<B>, service: Option<Service>, n: u32) -> R
 // The sums go to the balance; where a blocked account's balance reaches the fee, it starts on the day.
 fn top_up<B: Book>(ledger: &mut Ledger<B>, day: CallDay, sums: Sums) -> Receipt
     requires { ledger.old.balance.sums.0 + sums.0 ≤ most_balance }
-    ensures does { out (state_of B.Book.means ledger.new) (receipt_of result) ≡ wake_if_paid gregorian day.day.0 (with_balance (ledger.old.balance.sums.0 + sums.0) (state_of B.Book.means ledger.old)) }
+    ensures does { FollowsRule B.Book.means (λ s. wake_if_paid gregorian day.day.0 (with_balance (s.balance + sums.0) s)) ledger.old ledger.new result }
     ensures small { AllBelow (2 ^ 46) (receipt_of result) }
 {
     ledger.balance = Balance {
@@ -140,7 +140,7 @@ fn top_up<B: Book>(ledger: &mut Ledger<B>, day: CallDay, sums: Sums) -> Receipt
 // The books are wiped or kept up to the due day, and the account starts anew on the day.
 fn restart<B: Book>(ledger: &mut Ledger<B>, day: CallDay, due: Day) -> Receipt
     requires { (ledger.old.status ≡ active due) × (restart_concern B.Book.CAPACITY due.0 (new_due gregorian day.day.0) (state_of B.Book.means ledger.old) ≡ none_told) }
-    ensures does { out (state_of B.Book.means ledger.new) (receipt_of result) ≡ restarted gregorian day.day.0 (state_of B.Book.means ledger.old) }
+    ensures does { FollowsRule B.Book.means (restarted gregorian day.day.0) ledger.old ledger.new result }
     ensures small { AllBelow (2 ^ 35) (receipt_of result) }
 {
     let wiped = wiped_by_restart(ledger.terms);
@@ -152,7 +152,7 @@ fn restart<B: Book>(ledger: &mut Ledger<B>, day: CallDay, due: Day) -> Receipt
 // The books of a blocked account stay as they are, empty.
 fn leave_plan<B: Book>(ledger: &mut Ledger<B>, day: CallDay, entry: Entry) -> Receipt
     requires { leave_concern B.Book.CAPACITY (new_due gregorian day.day.0) (entry_of entry) (state_of B.Book.means ledger.old) ≡ none_told }
-    ensures does { out (state_of B.Book.means ledger.new) (receipt_of result) ≡ leave_plan gregorian day.day.0 (entry_of entry) (state_of B.Book.means ledger.old) }
+    ensures does { FollowsRule B.Book.means (leave_plan gregorian day.day.0 (entry_of entry)) ledger.old ledger.new result }
     ensures small { AllBelow (2 ^ 34) (receipt_of result) }
 {
     match ledger.status {
@@ -165,7 +165,7 @@ fn leave_plan<B: Book>(ledger: &mut Ledger<B>, day: CallDay, entry: Entry) -> Re
 }
 
 fn pay_entry<B: Book>(ledger: &mut Ledger<B>, entry: Entry) -> Receipt
-    ensures does { out (state_of B.Book.means ledger.new) (receipt_of result) ≡ pay_entry (entry_of entry) (state_of B.Book.means ledger.old) }
+    ensures does { FollowsRule B.Book.means (pay_entry (entry_of entry)) ledger.old ledger.new result }
     ensures small { AllBelow (2 ^ 34) (receipt_of result) }
 {
     pay(ledger, entry.price);
@@ -184,7 +184,7 @@ fn enter<B: Book>(
     entry: Entry,
 ) -> Receipt
     requires { leave_concern B.Book.CAPACITY (new_due gregorian day.day.0) (entry_of entry) (state_of B.Book.means ledger.old) ≡ none_told }
-    ensures does { out (state_of B.Book.means ledger.new) (receipt_of result) ≡ switched gregorian day.day.0 code.0 (terms_of terms) (entry_of entry) (state_of B.Book.means ledger.old) }
+    ensures does { FollowsRule B.Book.means (switched gregorian day.day.0 code.0 (terms_of terms) (entry_of entry)) ledger.old ledger.new result }
     ensures small { AllBelow (2 ^ 36) (receipt_of result) }
 {
     let paid = pay_entry(ledger, entry);
@@ -202,7 +202,7 @@ fn switch_to<L: Line, B: Book>(
     code: PlanCode,
 ) -> Receipt
     requires { first_refusal (checks (world (L.Line.tariff line.now) B.Book.CAPACITY) day.day.0 (switch_call code) (state_of B.Book.means ledger.old)) ≡ none_told }
-    ensures does { out (state_of B.Book.means ledger.new) (receipt_of result) ≡ performed (world (L.Line.tariff line.now) B.Book.CAPACITY) day.day.0 (switch_call code) (state_of B.Book.means ledger.old) }
+    ensures does { FollowsRule B.Book.means (performed (world (L.Line.tariff line.now) B.Book.CAPACITY) day.day.0 (switch_call code)) ledger.old ledger.new result }
     ensures small { AllBelow (2 ^ 36) (receipt_of result) }
 {
     let Some(terms) = line.terms(code) else {
@@ -221,7 +221,7 @@ pub(crate) fn perform<L: Line, B: Book>(
     call: Call,
 ) -> Receipt
     requires { first_refusal (checks (world (L.Line.tariff line.now) B.Book.CAPACITY) day.day.0 call (state_of B.Book.means ledger.old)) ≡ none_told }
-    ensures does { out (state_of B.Book.means ledger.new) (receipt_of result) ≡ performed (world (L.Line.tariff line.now) B.Book.CAPACITY) day.day.0 call (state_of B.Book.means ledger.old) }
+    ensures does { FollowsRule B.Book.means (performed (world (L.Line.tariff line.now) B.Book.CAPACITY) day.day.0 call) ledger.old ledger.new result }
     ensures small { AllBelow (2 ^ 46) (receipt_of result) }
 {
     match (ledger.status, call) {

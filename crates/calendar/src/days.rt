@@ -23,8 +23,7 @@ impl fmt::Display for PastCalendar {
     ghost output = { λ e. Some (codes "day " ++ (decimal e.0.0 ++ codes " is past the calendar")) };
 
     fn fmt<W: fmt::Write>(&self, f: &mut fmt::Formatter<W>) -> fmt::Result {
-        let day = self.0.0;
-        write!(f, "day {day} is past the calendar")
+        write!(f, "day {} is past the calendar", self.0.0)
     }
 }
 
@@ -38,8 +37,7 @@ impl fmt::Display for NoSuchDate {
     ghost output = { λ e. Some (any_date_text e.0 ++ codes " is no date of the calendar") };
 
     fn fmt<W: fmt::Write>(&self, f: &mut fmt::Formatter<W>) -> fmt::Result {
-        let date = self.0;
-        write!(f, "{date} is no date of the calendar")
+        write!(f, "{} is no date of the calendar", self.0)
     }
 }
 

@@ -3,7 +3,7 @@ ghost use Rattle.std.specs.Prelude.{◌≡◌, suc, ◌^◌};
 ghost use Rattle.rules.specs.DueDays.{settle as settled, lapse_all, bring_up};
 ghost use Rattle.rules.specs.Gregorian.{gregorian};
 ghost use Rattle.receipt.specs.Columns.{receipt_of, AllBelow};
-ghost use Rattle.ledger.specs.Meaning.{state_of, out};
+ghost use Rattle.ledger.specs.Meaning.{FollowsRule};
 
 use crate::books::lapse_book;
 use crate::ledger::Ledger;
@@ -15,7 +15,7 @@ use rules::call::Status;
 impl<B: Book> Ledger<B> {
     // Handles every due day at or before the day, one after another.
     pub fn settle(&mut self, day: CallDay) -> Receipt
-        ensures does { out (state_of B.Book.means self.new) (receipt_of result) ≡ settled gregorian (suc day.day.0) day.day.0 (state_of B.Book.means self.old) }
+        ensures does { FollowsRule B.Book.means (settled gregorian (suc day.day.0) day.day.0) self.old self.new result }
         ensures small { AllBelow (2 ^ 52) (receipt_of result) }
     {
         let mut total = Receipt::nothing();
@@ -30,7 +30,7 @@ impl<B: Book> Ledger<B> {
     }
 
     fn lapse(&mut self, day: CallDay) -> Receipt
-        ensures does { out (state_of B.Book.means self.new) (receipt_of result) ≡ lapse_all day.day.0 (state_of B.Book.means self.old) }
+        ensures does { FollowsRule B.Book.means (lapse_all day.day.0) self.old self.new result }
         ensures small { AllBelow (2 ^ 34) (receipt_of result) }
     {
         let minutes = lapse_book(&mut self.books.minutes, day.day);
@@ -41,7 +41,7 @@ impl<B: Book> Ledger<B> {
 
     // Handles the due days, and lets old lots lapse.
     pub fn bring_up(&mut self, day: CallDay) -> Receipt
-        ensures does { out (state_of B.Book.means self.new) (receipt_of result) ≡ bring_up gregorian day.day.0 (state_of B.Book.means self.old) }
+        ensures does { FollowsRule B.Book.means (bring_up gregorian day.day.0) self.old self.new result }
         ensures small { AllBelow (2 ^ 53) (receipt_of result) }
     {
         let settled = self.settle(day);

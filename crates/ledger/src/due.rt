@@ -3,7 +3,7 @@ ghost use Rattle.std.specs.Prelude.{◌≡◌, ◌^◌};
 ghost use Rattle.rules.specs.DueDays.{close_month, block as blocked_out, handle as handled};
 ghost use Rattle.rules.specs.Gregorian.{gregorian};
 ghost use Rattle.receipt.specs.Columns.{receipt_of, AllBelow};
-ghost use Rattle.ledger.specs.Meaning.{state_of, out};
+ghost use Rattle.ledger.specs.Meaning.{FollowsRule};
 
 use crate::books::{close_book, forfeit_book};
 use crate::dates::next_due;
@@ -15,7 +15,7 @@ use rules::call::Status;
 
 impl<B: Book> Ledger<B> {
     pub(crate) fn close_month(&mut self, end: Day) -> Receipt
-        ensures does { out (state_of B.Book.means self.new) (receipt_of result) ≡ close_month end.0 (state_of B.Book.means self.old) }
+        ensures does { FollowsRule B.Book.means (close_month end.0) self.old self.new result }
         ensures small { AllBelow (2 ^ 34) (receipt_of result) }
     {
         let carries = self.terms.carries;
@@ -26,7 +26,7 @@ impl<B: Book> Ledger<B> {
     }
 
     pub(crate) fn block(&mut self) -> Receipt
-        ensures does { out (state_of B.Book.means self.new) (receipt_of result) ≡ blocked_out (state_of B.Book.means self.old) }
+        ensures does { FollowsRule B.Book.means blocked_out self.old self.new result }
         ensures small { AllBelow (2 ^ 34) (receipt_of result) }
     {
         let minutes = forfeit_book(&mut self.books.minutes);
@@ -37,7 +37,7 @@ impl<B: Book> Ledger<B> {
     }
 
     pub(crate) fn handle(&mut self, day: CallDay) -> Receipt
-        ensures does { out (state_of B.Book.means self.new) (receipt_of result) ≡ handled gregorian day.day.0 (state_of B.Book.means self.old) }
+        ensures does { FollowsRule B.Book.means (handled gregorian day.day.0) self.old self.new result }
         ensures small { AllBelow (2 ^ 35) (receipt_of result) }
     {
         if self.balance.covers(self.terms.fee.sums) {

@@ -3,7 +3,7 @@ ghost use Rattle.std.specs.Prelude.{◌≡◌, ◌^◌};
 ghost use Rattle.rules.specs.DueDays.{take_fee, start_on};
 ghost use Rattle.rules.specs.Gregorian.{gregorian};
 ghost use Rattle.receipt.specs.Columns.{receipt_of, AllBelow};
-ghost use Rattle.ledger.specs.Meaning.{state_of, out};
+ghost use Rattle.ledger.specs.Meaning.{FollowsRule};
 
 use crate::books::fill_book;
 use crate::dates::{anchor_on, next_due};
@@ -16,7 +16,7 @@ use rules::call::Status;
 impl<B: Book> Ledger<B> {
     // The balance falls by the fee, the status is active until the next due day, the option goes off, the books are filled.
     pub fn take_fee(&mut self, day: CallDay) -> Receipt
-        ensures does { out (state_of B.Book.means self.new) (receipt_of result) ≡ take_fee gregorian day.day.0 (state_of B.Book.means self.old) }
+        ensures does { FollowsRule B.Book.means (take_fee gregorian day.day.0) self.old self.new result }
         ensures small { AllBelow (2 ^ 34) (receipt_of result) }
     {
         let terms = self.terms;
@@ -35,7 +35,7 @@ impl<B: Book> Ledger<B> {
 
     // The day of the month becomes the anchor, and the fee is taken on the day.
     pub fn start_on(&mut self, day: CallDay) -> Receipt
-        ensures does { out (state_of B.Book.means self.new) (receipt_of result) ≡ start_on gregorian day.day.0 (state_of B.Book.means self.old) }
+        ensures does { FollowsRule B.Book.means (start_on gregorian day.day.0) self.old self.new result }
         ensures small { AllBelow (2 ^ 34) (receipt_of result) }
     {
         self.anchor = Some(anchor_on(day));
