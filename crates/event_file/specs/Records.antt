@@ -1,5 +1,5 @@
 -- What a record's 16 bytes say.
-use Rattle.std.specs.Prelude.{◌≡◌, ℕ, Bool, true, false, cond, ◌&&◌, List, Some, None, Option, Result, ◌==◌, slice_index}
+use Rattle.std.specs.Prelude.{◌≡◌, ℕ, Bool, true, false, if◌then◌else◌, ◌&&◌, List, Some, None, Option, Result, ◌==◌, slice_index}
 use Rattle.std.specs.Option.{ok_or}
 use Rattle.quantities.specs.declared.unit.UnitKind.TheVariants.{Minutes, Megabytes, Messages}
 use Rattle.rules.specs.declared.call.Service.{Service}
@@ -15,10 +15,12 @@ use Rattle.event_file.specs.Layout.{le32}
 -- Byte 0 tells the kind: 1 a top-up, 2 a use, 3 a Restart, 4 a switch, 5 the option, 6 a day mark.
 abbrev pub kind_of : ℕ → Option Kind
 kind_of b =
-    cond (b == 1) (Some TopUp)
-    (cond (b == 2) (Some Use)
-    (cond (b == 3) (Some Restart)
-    (cond (b == 4) (Some Switch) (cond (b == 5) (Some MegabyteOption) (cond (b == 6) (Some DayMark) None)))))
+    if b == 1 then Some TopUp else
+    if b == 2 then Some Use else
+    if b == 3 then Some Restart else
+    if b == 4 then Some Switch else
+    if b == 5 then Some MegabyteOption else
+    if b == 6 then Some DayMark else None
 
 -- The result is the kind that the byte names, or the byte, which names none.
 abbrev pub NamesKind : ℕ → Result Kind UnknownKind → Type 0
@@ -27,9 +29,10 @@ NamesKind b r = r ≡ ok_or (kind_of b) (record { 0 = b })
 -- Byte 1 tells the service of a use: 1 minutes, 2 megabytes, 3 messages, 4 messages abroad; no service has another code.
 abbrev pub service_of : ℕ → Option Service
 service_of b =
-    cond (b == 1) (Some (Counted Minutes))
-    (cond (b == 2) (Some (Counted Megabytes))
-    (cond (b == 3) (Some (Counted Messages)) (cond (b == 4) (Some International) None)))
+    if b == 1 then Some (Counted Minutes) else
+    if b == 2 then Some (Counted Megabytes) else
+    if b == 3 then Some (Counted Messages) else
+    if b == 4 then Some International else None
 
 -- Bytes 4 to 7 tell the amount, and bytes 8 to 11 the moment.
 abbrev pub amount : List ℕ → ℕ
@@ -80,7 +83,7 @@ record_right bytes = right_as (kind_of (slice_index bytes 0)) bytes
 -- What a record says: nothing if it is wrong, and else its call with its moment.
 abbrev pub decoded_as : Option Kind → List ℕ → Option Event
 decoded_as None bytes = None
-decoded_as (Some k) bytes = cond (right_as (Some k) bytes) (Some (record { moment = record { 0 = moment bytes }; call = call_of k bytes })) None
+decoded_as (Some k) bytes = if right_as (Some k) bytes then Some (record { moment = record { 0 = moment bytes }; call = call_of k bytes }) else None
 
 abbrev pub decoded : List ℕ → Option Event
 decoded bytes = decoded_as (kind_of (slice_index bytes 0)) bytes

@@ -43,7 +43,7 @@ impl TryFrom<u8> for Kind {
 }
 
 // The service that a record's second byte names, if it names one.
-// No `TryFrom`: `Service` is of another crate, and a use of no service is a call as well, so that nothing is refused here.
+// No `TryFrom`: `Service` is another crate's, and a use of no service is a call too, which wants the `Option` as it is.
 fn service_of(byte: u8) -> Option<Service>
     ensures value { result ≡ service_of byte }
 {
@@ -67,7 +67,7 @@ pub fn event_of(bytes: &[u8; 16]) -> Option<Event>
     let kind = Kind::try_from(kind).ok()?;
     let amount = u32::from_le_bytes([a, b, c, d]);
     let call = match kind {
-        Kind::TopUp if code == 0 => Call::TopUp(Sums(amount as u64)),
+        Kind::TopUp if code == 0 => Call::TopUp(Sums(u64::from(amount))),
         Kind::Use => Call::Use(service_of(code), amount),
         Kind::Restart if code == 0 && amount == 0 => Call::Restart,
         Kind::Switch if amount == 0 => Call::Switch(PlanCode(code)),

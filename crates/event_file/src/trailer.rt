@@ -41,7 +41,7 @@ impl Trailer {
         };
         let first = u32::from_le_bytes([a, b, c, d]);
         let count = u32::from_le_bytes([e, f, g, h]);
-        if first as u64 + 16 * count as u64 != body.len() as u64 {
+        if u64::from(first) + 16 * u64::from(count) != body.len() as u64 {
             return Err(FileFault::WrongFile);
         }
         Ok(Trailer {
