@@ -57,14 +57,11 @@ DueByLast a = (d : Day) → a.state.status ≡ active d → d.0 ≤ last_due_day
 pub due_by_last : (w : World) (file : List ℕ) (end : Account) → DuesEnd w.calendar → Some end ≡ file_closing w file → DueByLast end
 due_by_last w file end ends = go (ltb last_moment (opening_moment file)) (w.terms (opening_plan file)) refl
   where
-    never : Some end ≡ None → DueByLast end
-    never e = let z : ◌≡◌ {A = ℕ} 0 1 = cc in absurd (omega arith)
-
     go : (late : Bool) (t : Option Terms) → w.terms (opening_plan file) ≡ t →
         let o = cond {A = Option Account} late None (elim t [ None ↦ None | Some x ↦ Some (opened (opening_plan file) x (opening_moment file)) ]) in
         Some end ≡ closing_from o w file → DueByLast end
-    go true t h e = never e
-    go false None h e = never e
+    go true t h e = cc
+    go false None h e = cc
     go false (Some t) h e =
         let c = opening_plan file in
         let m = opening_moment file in

@@ -1,4 +1,5 @@
 -- The run of a file is the run of its calls, so that the laws over runs hold of what it hands back.
+use Rattle.std.specs.List.{cons_option}
 use Rattle.std.proofs.Common.{◌≡◌, ℕ, ◌+◌, Bool, true, false, cond, ltb, List, [], ◌∷◌, ◌++◌, length, take, drop, Some, None, Option, sym, refl, ap, ◌∙◌, subst, subst₂}
 use Rattle.quantities.specs.Limits.{last_moment}
 use Rattle.quantities.specs.Units.{of}
@@ -16,7 +17,7 @@ use Rattle.event_file.specs.Layout.{opening_plan, opening_moment}
 use Rattle.event_file.specs.Parts.{Placed, parts}
 use Rattle.event_file.specs.Records.{decoded}
 use Rattle.event_run.specs.Postings.{Posting, answer_to, placed_outcome, postings, closing, postings_from, closing_from, file_postings, file_closing}
-use Rattle.event_run.specs.FileLaw.{calls, with_event, with_outcome, bare, call_outcomes, total, FileLaw, LawFrom, LawOfFile, LawClosing, ObeysLaw}
+use Rattle.event_run.specs.FileLaw.{calls, with_outcome, bare, call_outcomes, total, FileLaw, LawFrom, LawOfFile, LawClosing, ObeysLaw}
 
 bare-placed : (o : Option Refusal) (p : _) → bare (placed_outcome o p) ≡ o
 bare-placed None p = refl
@@ -39,7 +40,7 @@ told w a (p ∷ ps) = go (λ b. told w b ps) (decoded p.bytes)
           account = closing w x.account ps;
           total = x.receipt ⊕ total (postings w x.account ps);
         } in
-        r ≡ run w a (with_event d (calls ps))
+        r ≡ run w a (cons_option d (calls ps))
     go rest None =
         ap (λ t. let r : Run = record { outcomes = call_outcomes ps (postings w a ps); account = closing w a ps; total = t } in r) (nothing-⊕ (total (postings w a ps)))
         ∙ rest a
@@ -78,9 +79,6 @@ file_law w c t m ps =
     let same = told w a ps in
     subst (Law w a ps) (sym same) (law w c t m ps) (postings w a ps) refl refl
 
-some_is : {A : Type 0} (x y : A) → ◌≡◌ {A = Option A} (Some x) (Some y) → x ≡ y
-some_is x y e = cc
-
 -- what a run handed back obeys the law
 pub law_of_file : (w : World) (file : List ℕ) (posted : List Posting) (end : Account) →
     posted ≡ file_postings w file → Some end ≡ file_closing w file → LawOfFile w file posted end
@@ -95,7 +93,7 @@ law_of_file w file posted end = go (ltb last_moment (opening_moment file)) (w.te
         let c = opening_plan file in
         let m = opening_moment file in
         let a = opened c t m in
-        let ends : end ≡ closing w a (parts file) = some_is end (closing w a (parts file)) q in
+        let ends : end ≡ closing w a (parts file) = cc in
         subst₂ (FileLaw w (parts file) a) (sym p) (sym ends) (file_law w c t m (parts file))
 
 pub obeys_law : (w : World) (file : List ℕ) → ObeysLaw w file

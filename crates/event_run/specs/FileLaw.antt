@@ -1,6 +1,6 @@
 -- The law over the run of a file, said of what the run hands back: its postings and the account at the end.
 use Rattle.std.specs.Prelude.{◌≡◌, ℕ, ◌+◌, ◌≤◌, List, [], ◌∷◌, ◌++◌, length, take, drop, Some, None, Option}
-use Rattle.std.specs.List.{AllByRecursion}
+use Rattle.std.specs.List.{AllByRecursion, filter_map}
 use Rattle.quantities.specs.Units.{of}
 use Rattle.quantities.specs.declared.unit.UnitKind.{UnitKind}
 use Rattle.rules.specs.declared.call.Event.{Event}
@@ -16,13 +16,8 @@ use Rattle.event_run.specs.Postings.{PlacedRefusal, Posting, opened_by, file_pos
 -- ## The calls of a file
 
 -- the calls that the right records ask for, in their order; a wrong record makes none
-abbrev pub with_event : Option Event → List Event → List Event
-with_event None es = es
-with_event (Some e) es = e ∷ es
-
 abbrev pub calls : List Placed → List Event
-calls [] = []
-calls (p ∷ ps) = with_event (decoded p.bytes) (calls ps)
+calls ps = filter_map (λ p. decoded p.bytes) ps
 
 abbrev pub with_outcome : Option Event → Option Refusal → List (Option Refusal) → List (Option Refusal)
 with_outcome None o os = os

@@ -1,5 +1,5 @@
 -- The run over an event file: each record's call is made one after another, and posted with its place.
-use Rattle.std.specs.Prelude.{ℕ, cond, List, [], ◌∷◌, Some, None, Option}
+use Rattle.std.specs.Prelude.{ℕ, if◌then◌else◌, List, [], ◌∷◌, Some, None, Option}
 use Rattle.rules.specs.declared.call.Event.{Event}
 use Rattle.rules.specs.Receipt.{Receipt}
 use Rattle.rules.specs.State.{World, Account}
@@ -62,7 +62,7 @@ wrong_file = record { refusal = record { number = 13; concern = None }; place = 
 
 abbrev pub refused_file : World → List ℕ → Option PlacedRefusal
 refused_file w file =
-    cond (file_right file) (placed_outcome (opening_refusal w (opening_plan file) (opening_moment file)) no_place) (Some wrong_file)
+    if file_right file then placed_outcome (opening_refusal w (opening_plan file) (opening_moment file)) no_place else Some wrong_file
 
 -- the account that a file names, newly opened
 abbrev pub opened_by : World → List ℕ → Option Account

@@ -38,6 +38,7 @@ pub fn post_records<L: Line, B: Book, J: Journal>(
 
 // Opens the account that the file names on the line, with the books, and makes the call of each record. What became of
 // each is posted to the journal; a refused file or opening posts nothing.
+// The clauses are near to those of `run_file`: one record for both would take both answers' shapes as parameters.
 pub fn post_file<L: Line + Drop, B: Book + Drop, J: Journal>(
     file: &[u8],
     provision: Provision<L, B>,

@@ -1,5 +1,5 @@
 -- What is handed on is the first of the records still to come.
-use Rattle.std.proofs.Common.{◌<◌, take, ap, ◌∙◌, arith}
+use Rattle.std.proofs.Common.{arith}
 use Rattle.std.proofs.lemmas.List.{take_rest}
 use Rattle.event_file.proofs.Parts.{first_part}
 use Rattle.event_file.proofs.reader.RecordsIterator.next.Goals as goal
