@@ -172,7 +172,8 @@ fn judge_switch<L: Line, B: Book>(
     }
 }
 
-// Which refusal a call meets after a lapse on the day.
+// Which refusal a call meets after a lapse on the day. Ledger, line and day stay three parameters: in a struct, each clause
+// would reach for them by `self.now.ledger.now`.
 fn judge_at<L: Line, B: Book>(
     ledger: &Ledger<B>,
     line: &L,
@@ -202,7 +203,8 @@ fn fresh_only(fresh: u32) -> Small
     book
 }
 
-// What the handling of a due day reads: all but the old lots, which it drops.
+// What the handling of a due day reads: all but the old lots, which it drops. Field by field, since books of another kind
+// make it a ledger of another type.
 fn ahead<B: Book>(ledger: &Ledger<B>, day: Day) -> Ledger<Small>
     ensures { state_of meaning result ≡ stripped (state_of B.Book.means ledger.now) }
 {

@@ -3,6 +3,7 @@ use book::answers::Cleared;
 use book::fault::BookFault;
 use quantities::time::Day;
 
+// A value and no closure, since it is printed, and taken on books of two types.
 #[derive(Clone, Copy)]
 pub enum Step {
     Fill(u32),

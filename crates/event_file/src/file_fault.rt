@@ -36,6 +36,7 @@ pub enum FileFault {
 }
 
 impl FileFault {
+    // The number by which it is told; code goes by the enum.
     pub fn number(self) -> u8
         ensures value { result ≡ number_of self }
     {

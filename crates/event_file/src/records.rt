@@ -11,7 +11,8 @@ pub struct Part<'a> {
     pub place: Place,
 }
 
-// The records of a file that are still to come.
+// The records of a file that are still to come. Index and count stand beside the bytes: each record is handed on with its
+// index and offset, and after the last one the reader tells where it stands.
 #[derive(Drop)]
 pub struct Records<'a> {
     pub(crate) file: &'a [u8],

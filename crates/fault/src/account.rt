@@ -39,6 +39,7 @@ pub enum Fault {
 }
 
 impl Fault {
+    // The number by which it is told; code goes by the enum.
     pub fn number(self) -> u8
         ensures value { result ≡ number_of self }
     {

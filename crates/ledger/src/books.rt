@@ -1,4 +1,5 @@
-// What the rules do to the book of one unit, and the tally of it.
+// What the rules do to the book of one unit, and the tally of it. Callers name the three units in turn: a tally's type says
+// its unit, so that no closure and no loop serves all three.
 ghost use Rattle.std.specs.Prelude.{◌≡◌, ◌^◌};
 ghost use Rattle.book.specs.Allowance.{units, empty, ended, lapsed};
 ghost use Rattle.rules.specs.Receipt.{granting, ending};

@@ -8,6 +8,7 @@ use tariff::terms::{Entry, Fate, PlanCode, Terms};
 // What is left at a due day ends.
 const CARRIES: bool = false;
 
+// A type of its own, and not one type over rows: the two matches are the line's tables.
 #[derive(Clone, Copy)]
 pub struct SinglePlans;
 

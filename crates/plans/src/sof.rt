@@ -8,6 +8,7 @@ use tariff::terms::{Entry, Fate, PlanCode, Terms};
 // In each plan of the line, what is left at a paid due day is carried.
 const CARRIES: bool = true;
 
+// A type of its own, and not one type over rows: the two matches are the line's tables.
 #[derive(Clone, Copy)]
 pub struct Sof;
 

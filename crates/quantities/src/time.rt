@@ -27,7 +27,8 @@ impl Moment {
         Day(self.0 / 1440)
     }
 
-    // The day of a moment at which a call can be dated; none past the last one.
+    // The day of a moment at which a call can be dated; none past the last one. A method like `day`: `try_from` would not
+    // say which of its days.
     pub fn call_day(self) -> Option<CallDay>
         ensures { MatchOption result (last_moment < self.0) (λ d. (self.0 ≤ last_moment) × (d.day.0 ≡ self.0 / 1440)) }
     {

@@ -7,7 +7,8 @@ use crate::tally::Tally;
 use quantities::money::Sums;
 use quantities::unit::{Megabyte, Message, Minute};
 
-// Money in sums, and a tally for each unit.
+// Money in sums, and a tally for each unit. How large a column may be is said by each function that makes a receipt, and not
+// by the type: the total of a life passes what one call can tell.
 #[derive(Clone, Copy)]
 pub struct Receipt {
     pub fees: Sums,

@@ -1,5 +1,5 @@
 -- No column of a receipt passes what 32 bits hold, for any account within the limits.
-use Rattle.std.proofs.Common.{◌≡◌, ℕ, suc, ◌+◌, ◌*◌, ◌≤◌, false, Some, None, Option, sym, refl, subst, inl, inr, ⊎_elim, mul-le-mul, arith}
+use Rattle.std.proofs.Common.{◌≡◌, ℕ, ◌+◌, ◌*◌, ◌≤◌, false, Some, None, Option, sym, refl, subst, inl, inr, ⊎_elim, mul-le-mul, arith}
 use Rattle.std.specs.List.{AllByRecursion}
 use Rattle.std.proofs.lemmas.Bool.{ltb-false}
 use Rattle.std.proofs.lemmas.Bool.Decides.{nat_tests}
@@ -18,7 +18,7 @@ use Rattle.rules.specs.declared.call.Call.TheVariants.{TopUp as top_up, Use as u
 use Rattle.rules.specs.declared.call.Event.{Event}
 use Rattle.rules.specs.Receipt.{Receipt, ◌⊕◌, nothing}
 use Rattle.rules.specs.State.{Calendar, World, State, Account, Out, same}
-use Rattle.rules.specs.DueDays.{settle, lapse_all, bring_up}
+use Rattle.rules.specs.DueDays.{bring_up}
 use Rattle.rules.specs.Calls.{serve, perform, switch_to, switched}
 use Rattle.rules.specs.Checks.{Refusal, outside, checks, all_checks, day_of, brought, refusal}
 use Rattle.rules.specs.Runs.{Answer, accepted, step, run, opened}

@@ -70,6 +70,7 @@ impl Lots {
         ensures lots { held self.new ≡ undrawn n (held self.old) }
     {
         let mut left = n;
+        // counted on the way, since the walk that lowers the lots ends within one
         let mut emptied = 0;
         for lot in self.lots.iter_mut() {
             left -= lot.lower(left);

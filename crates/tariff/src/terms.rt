@@ -13,7 +13,8 @@ pub struct PlanCode(pub u8);
 // A plan's terms for one unit.
 #[derive(Clone, Copy)]
 pub struct UnitTerms<K> {
-    // whether the service is to be had at all
+    // whether the service is to be had at all; a flag beside the amount and the price, since a fee fills the book and a
+    // Restart wipes it whether it is or not
     pub offered: bool,
     // what each fee grants
     pub amount: Count<K>,
@@ -26,11 +27,13 @@ pub struct UnitTerms<K> {
 // A plan's terms for messages abroad, which no allowance covers.
 #[derive(Clone, Copy)]
 pub struct InternationalTerms {
+    // a flag beside the price, as in `UnitTerms`
     pub offered: bool,
     pub price: Price<InternationalMessage>,
 }
 
-// The terms of a plan, within the limits of the subject.
+// The terms of a plan, within the limits of the subject. The limits stand here, unit by unit: in `UnitTerms` they would
+// bind whoever makes one that never becomes part of a plan.
 #[derive(Clone, Copy)]
 pub struct Terms {
     pub fee: Fee,

@@ -1,5 +1,5 @@
 -- Totals of a run are exact: no column of a receipt passes what 32 bits hold, and there are few enough receipts.
-use Rattle.std.proofs.Common.{◌≡◌, ℕ, zero, suc, ◌+◌, ◌-◌, ◌*◌, ◌^◌, ◌<◌, ◌≤◌, Bool, true, false, cond, leb, List, [], ◌∷◌, length, Some, None, Option, sym, refl, ap, ◌∙◌, subst, arith}
+use Rattle.std.proofs.Common.{◌≡◌, ℕ, ◌+◌, ◌-◌, ◌*◌, ◌^◌, ◌<◌, ◌≤◌, Bool, true, false, cond, leb, List, [], ◌∷◌, length, Some, None, Option, sym, refl, ap, ◌∙◌, subst, arith}
 use Rattle.std.proofs.lemmas.Bool.{and_parts, leb-true, eqb-true}
 use Rattle.quantities.specs.declared.unit.UnitKind.TheVariants.{Minutes, Megabytes, Messages}
 use Rattle.rules.specs.Receipt.{Receipt, nothing, ◌⊕◌}
@@ -10,23 +10,17 @@ use Rattle.rules.proofs.Receipts.{⊕_assoc, nothing-⊕, ⊕-nothing}
 use Rattle.rules.proofs.Columns.{columns_nothing}
 use Rattle.receipt.specs.Columns.{receipt_of, AllBelow}
 use Rattle.event_file.specs.Layout.{most_bytes, first_offset, count, opening_plan, opening_moment, spare_right, file_right}
-use Rattle.event_file.specs.Parts.{Placed, parts_from, parts}
-use Rattle.event_run.specs.Postings.{Posting, answer_at, placed_outcome, postings, postings_from, no_place, wrong_file, refused_file, opened_by, file_postings}
+use Rattle.event_file.specs.Parts.{parts}
+use Rattle.event_file.proofs.Parts.{length-parts_from}
+use Rattle.event_run.specs.Postings.{Posting, placed_outcome, postings_from, no_place, wrong_file, refused_file, opened_by, file_postings}
 use Rattle.event_run.specs.Journals.{Taken}
 use Rattle.event_run.specs.FileLaw.{total}
+use Rattle.event_run.proofs.Listed.{length-postings}
 use Rattle.event_run.proofs.FileBounds.{AllWithin, file_within}
 use Rattle.totals.specs.declared.totals.Totals.{Totals}
 use Rattle.totals.specs.Adding.{Adds}
 
 -- ## How many there are
-
-length-parts : (bytes : List ℕ) (first k n : ℕ) → length (parts_from bytes first k n) ≡ n
-length-parts bytes first k zero = refl
-length-parts bytes first k (suc n) = ap suc (length-parts bytes first (k + 1) n)
-
-length-postings : (w : World) (a : Account) (ps : List Placed) → length (postings w a ps) ≡ length ps
-length-postings w a [] = refl
-length-postings w a (p ∷ ps) = ap suc (length-postings w (answer_at w a p).account ps)
 
 length_from : (o : Option Account) (w : World) (file : List ℕ) → length (postings_from o w file) ≤ length (parts file)
 length_from None w file = omega arith
@@ -34,7 +28,7 @@ length_from (Some a) w file = omega (arith, length-postings w a (parts file))
 
 -- a file has at most as many postings as records
 pub postings-few : (w : World) (file : List ℕ) → length (file_postings w file) ≤ count file
-postings-few w file = omega (arith, length_from (opened_by w file) w file, length-parts file (first_offset file) 0 (count file))
+postings-few w file = omega (arith, length_from (opened_by w file) w file, length-parts_from file (first_offset file) 0 (count file))
 
 -- a file that isn't refused is a right one
 pub right_file : (w : World) (file : List ℕ) → None ≡ refused_file w file → file_right file ≡ true
@@ -96,7 +90,7 @@ few_in_file w file h =
     let (long, rest) = and_parts (leb 16 (length file)) _ right in
     let (short, others) = and_parts (leb (length file) most_bytes) _ rest in
     let (spare, filled) = and_parts (spare_right file) _ others in
-    omega (arith, leb-true (length file) most_bytes short, eqb-true (first_offset file + 16 * count file) (length file - 16) filled, length-parts file (first_offset file) 0 (count file))
+    omega (arith, leb-true (length file) most_bytes short, eqb-true (first_offset file + 16 * count file) (length file - 16) filled, length-parts_from file (first_offset file) 0 (count file))
 
 -- the totals of a file's records
 pub total_of_file : (w : World) (file : List ℕ) (x y : Totals) → HundredYears w.calendar → receipt_of x.receipt ≡ nothing → None ≡ refused_file w file →
