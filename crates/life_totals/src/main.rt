@@ -27,7 +27,10 @@ fn print_tally<K>(rt: &HostRuntime, unit: &str, tally: Tally<K>) -> anyhow::Resu
 }
 
 fn print_totals(rt: &HostRuntime, total: Receipt) -> anyhow::Result<()> {
-    println!(rt; "sums {} {} {}", total.fees, total.use_charges, total.switch_charges)?;
+    println!(rt;
+        "sums {} {} {}",
+        total.fees, total.use_charges, total.switch_charges
+    )?;
     print_tally(rt, "minutes", total.minutes)?;
     print_tally(rt, "megabytes", total.megabytes)?;
     print_tally(rt, "messages", total.messages)

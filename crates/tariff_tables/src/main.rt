@@ -31,7 +31,10 @@ fn print_terms(rt: &HostRuntime, code: u8, terms: &Terms) -> io::Result<()> {
     } else {
         "not offered, "
     };
-    println!(rt; "  messages abroad: {offered}each {}", terms.international.price.sums)?;
+    println!(rt;
+        "  messages abroad: {offered}each {}",
+        terms.international.price.sums
+    )?;
     let left = if terms.carries { "is carried" } else { "ends" };
     println!(rt; "  what is left {left}")
 }
