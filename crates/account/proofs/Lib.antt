@@ -1,4 +1,2 @@
-pub mod Costs
 pub mod Bounded
-pub mod Passed
 pub mod Judged

@@ -25,7 +25,7 @@ use quantities::limits::{MOST_BALANCE, MOST_TOP_UP, MOST_USE};
 use quantities::money::Sums;
 use quantities::price::Price;
 use quantities::time::{CallDay, Day};
-use quantities::unit::{Count, PerUnit, UnitKind};
+use quantities::unit::{Count, UnitKind};
 use rules::call::{Call, Service, Status};
 use small_book::small::Small;
 use tariff::line::Line;
@@ -46,6 +46,7 @@ fn cost_beyond<K, B: Book>(book: &B, price: Price<K>, day: Day, n: u32) -> Sums
     price.cost(Count::new(over as u32))
 }
 
+// An arm for each unit: the terms of each have a type of their own.
 fn offers<B: Book>(ledger: &Ledger<B>, service: Option<Service>) -> bool
     ensures { result ≡ has_service service (state_of B.Book.means ledger.now) }
 {
@@ -58,7 +59,7 @@ fn offers<B: Book>(ledger: &Ledger<B>, service: Option<Service>) -> bool
     }
 }
 
-// What a use costs after a lapse on the day.
+// What a use costs after a lapse on the day. A service and its number are two parameters, as a call has them.
 fn charge<B: Book>(ledger: &Ledger<B>, day: Day, service: Option<Service>, n: u32) -> Sums
     ensures { result.0 ≡ use_charge service n (lapse_all day.0 (state_of B.Book.means ledger.now)).state }
 {
@@ -91,9 +92,11 @@ fn runs_past<B: Book>(ledger: &Ledger<B>, day: Day, service: Option<Service>, n:
 fn judge_top_up<B: Book>(ledger: &Ledger<B>, day: CallDay, sums: Sums) -> Result<(), Fault>
     ensures told { (w : World) → outcome_of result ≡ refusal_after_lapse w day.day.0 (top_up_call sums) (state_of B.Book.means ledger.now) }
 {
+    // two comparisons: what `contains` tells speaks of the state of a range as well
     if sums.0 < 1 || sums.0 > MOST_TOP_UP {
         return Err(Fault::AmountOutOfRange);
     }
+    // a sum of numbers, since it may be no balance
     if ledger.balance.sums.0 + sums.0 > MOST_BALANCE {
         return Err(Fault::BalanceTooHigh);
     }
@@ -109,6 +112,7 @@ fn judge_use<B: Book>(
 ) -> Result<(), Fault>
     ensures told { (w : World) → outcome_of result ≡ refusal_after_lapse w day.day.0 (use_call service n) (state_of B.Book.means ledger.now) }
 {
+    // two comparisons, as for a top-up
     if n < 1 || n > MOST_USE {
         return Err(Fault::AmountOutOfRange);
     }
@@ -182,6 +186,7 @@ fn judge_at<L: Line, B: Book>(
 ) -> Result<(), Fault>
     ensures told { outcome_of result ≡ refusal_after_lapse (world (L.Line.tariff line.now) B.Book.CAPACITY) day.day.0 call (state_of B.Book.means ledger.now) }
 {
+    // one match on status and call together, since a call is judged by both
     match (ledger.status, call) {
         (_, Call::TopUp(sums)) => judge_top_up(ledger, day, sums),
         (_, Call::Use(service, n)) => judge_use(ledger, day, service, n),
@@ -195,16 +200,15 @@ fn judge_at<L: Line, B: Book>(
 
 // A small book with this much fresh and nothing old.
 fn fresh_only(fresh: u32) -> Small
-    requires { fresh ≤ most_grant }
-    ensures { meaning result ≡ record { fresh = fresh; lots = [] } }
+    ensures { fresh ≤ most_grant → meaning result ≡ record { fresh = fresh; lots = [] } }
 {
     let mut book = Small::new();
     let _ = book.fill(fresh);
     book
 }
 
-// What the handling of a due day reads: all but the old lots, which it drops. Field by field, since books of another kind
-// make it a ledger of another type.
+// What the handling of a due day reads: all but the old lots, which it drops. Its other fields are copied one by one, since
+// books of another kind make it a ledger of another type.
 fn ahead<B: Book>(ledger: &Ledger<B>, day: Day) -> Ledger<Small>
     ensures { state_of meaning result ≡ stripped (state_of B.Book.means ledger.now) }
 {
@@ -216,11 +220,7 @@ fn ahead<B: Book>(ledger: &Ledger<B>, day: Day) -> Ledger<Small>
         last_fee: ledger.last_fee,
         anchor: ledger.anchor,
         option: ledger.option,
-        books: PerUnit {
-            minutes: fresh_only(ledger.books.minutes.fresh_after(day)),
-            megabytes: fresh_only(ledger.books.megabytes.fresh_after(day)),
-            messages: fresh_only(ledger.books.messages.fresh_after(day)),
-        },
+        books: ledger.books.map(|book| fresh_only(book.fresh_after(day))),
     }
 }
 

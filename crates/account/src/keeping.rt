@@ -17,7 +17,8 @@ use ledger::ledger::Ledger;
 use quantities::time::{CallDay, Day};
 use quantities::unit::{PerUnit, UnitKind};
 
-// What a book would answer to being wiped or set aside after a lapse on the day.
+// What a book would answer to being wiped or set aside after a lapse on the day. End and cap are two parameters, as books
+// take them, and beside the flag: they count only where it is down, and are the same for all three books.
 fn judge_book<B: Book>(book: &B, wiped: bool, day: Day, end: Day, cap: Day) -> Result<(), BookFault>
     ensures { result ≡ (if wiped then Ok tt else aside_answer B.Book.CAPACITY end.0 cap.0 (lapsed day.0 (B.Book.means book.now))) }
 {
@@ -44,6 +45,7 @@ pub(crate) fn judge_books<B: Book>(
             fault,
         })
     };
+    // in turn, so that the first refusal is told
     judge(UnitKind::Minutes)?;
     judge(UnitKind::Megabytes)?;
     judge(UnitKind::Messages)?;

@@ -17,7 +17,7 @@ use receipt::cause::Cause;
 use receipt::receipt::Receipt;
 use receipt::tally::Tally;
 
-// Wipes a book, or sets it aside where judging found that it can be.
+// Wipes a book, or sets it aside where judging found that it can be. End and cap stand beside the flag as in judging.
 fn wipe_or_keep<K, B: Book>(book: &mut B, cause: Cause, wiped: bool, end: Day, cap: Day) -> Tally<K>
     requires { keep_refusal B.Book.CAPACITY end.0 cap.0 wiped (B.Book.means book.old) ≡ none_told }
     ensures book { B.Book.means book.new ≡ (if wiped then empty else aside end.0 cap.0 (B.Book.means book.old)) }
@@ -33,6 +33,7 @@ fn wipe_or_keep<K, B: Book>(book: &mut B, cause: Cause, wiped: bool, end: Day, c
     }
 }
 
+// Unit by unit: each tally has a type of its own.
 pub(crate) fn leave_books<B: Book>(
     ledger: &mut Ledger<B>,
     cause: Cause,

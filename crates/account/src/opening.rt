@@ -36,6 +36,7 @@ impl<L: Line, B: Book> Account<L, B> {
             return Err(RefusedOpening { fault, provision });
         };
         let Provision { line, mut books } = provision;
+        // three calls: a walk that lends each book to a closure would be longer, and say less to the clauses
         let _ = books.minutes.clear();
         let _ = books.megabytes.clear();
         let _ = books.messages.clear();

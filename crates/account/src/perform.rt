@@ -70,6 +70,7 @@ fn pay<B: Book>(ledger: &mut Ledger<B>, cost: Sums)
     ledger.balance = ledger.balance.less(cost);
 }
 
+// An arm for each unit: book, price and tally of each have a type of their own.
 fn serve<B: Book>(ledger: &mut Ledger<B>, service: Option<Service>, n: u32) -> Receipt
     ensures does { FollowsRule B.Book.means (served service n) ledger.old ledger.new result }
     ensures small { AllBelow (2 ^ 46) (receipt_of result) }
@@ -195,6 +196,7 @@ fn enter<B: Book>(
     paid.plus(left.plus(started))
 }
 
+// Ledger, line and day stay parameters here and below, as in judging.
 fn switch_to<L: Line, B: Book>(
     ledger: &mut Ledger<B>,
     line: &L,
@@ -224,6 +226,7 @@ pub(crate) fn perform<L: Line, B: Book>(
     ensures does { FollowsRule B.Book.means (performed (world (L.Line.tariff line.now) B.Book.CAPACITY) day.day.0 call) ledger.old ledger.new result }
     ensures small { AllBelow (2 ^ 46) (receipt_of result) }
 {
+    // one match on status and call together, since what a call does depends on both
     match (ledger.status, call) {
         (_, Call::TopUp(sums)) => top_up(ledger, day, sums),
         (_, Call::Use(service, n)) => serve(ledger, service, n),

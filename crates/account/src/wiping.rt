@@ -7,6 +7,7 @@ ghost use Rattle.account.specs.Leaving.{by_unit};
 use quantities::unit::PerUnit;
 use tariff::terms::{Entry, Fate, Terms};
 
+// Unit by unit: the terms of each have a type of their own.
 pub(crate) fn wiped_by_restart(terms: Terms) -> PerUnit<bool>
     ensures { result ≡ by_unit (λ k. restart_wipes_unit k (terms_of terms)) }
 {
@@ -21,6 +22,7 @@ pub(crate) fn wiped_by_restart(terms: Terms) -> PerUnit<bool>
 pub(crate) fn wiped_by_switch(entry: Entry, terms: Terms) -> PerUnit<bool>
     ensures { result ≡ by_unit (switch_wipes_unit (entry_of entry) (terms_of terms)) }
 {
+    // three times, since a walk over the units would be longer
     let wiped = matches!(entry.fate, Fate::Wiped);
     PerUnit {
         minutes: wiped,

@@ -5,7 +5,7 @@ ghost use Rattle.book.specs.Fault.{fault_number};
 use crate::fault::BookFault;
 
 impl BookFault {
-    // Every refusal by a book has the one number, whatever its reason.
+    // Every refusal by a book is told by the one number, whatever its reason; code goes by the enum.
     pub fn number(self) -> u8
         ensures value { result ≡ fault_number self }
     {

@@ -4,6 +4,7 @@ ghost use Rattle.quantities.specs.Limits.{most_fee, most_balance};
 
 use std::fmt;
 
+// Not an `Amount` of money: sums alone are put in order, and every clause counts in them.
 #[derive(Clone, Copy, PartialEq, Eq, PartialOrd, Ord, Debug)]
 pub struct Sums(pub u64);
 

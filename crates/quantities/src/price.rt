@@ -26,6 +26,6 @@ impl<K> Price<K> {
     pub fn cost(self, count: Count<K>) -> Sums
         ensures { result.0 ≡ count.number * self.sums }
     {
-        Sums(count.number as u64 * self.sums as u64)
+        Sums(u64::from(count.number) * u64::from(self.sums))
     }
 }

@@ -32,6 +32,7 @@ impl Moment {
     pub fn call_day(self) -> Option<CallDay>
         ensures { MatchOption result (last_moment < self.0) (λ d. (self.0 ≤ last_moment) × (d.day.0 ≡ self.0 / 1440)) }
     {
+        // by the number: `LAST_MOMENT` is one, as clauses name it
         if self.0 > LAST_MOMENT {
             return None;
         }

@@ -1,5 +1,6 @@
 // The three units that allowances are counted in.
 ghost use Rattle.std.specs.Prelude.{◌≡◌, ◌+◌, ◌-◌, ◌^◌, min};
+ghost use Rattle.std.specs.Fn.{FnReturnsAt};
 ghost use Rattle.quantities.specs.Units.{of};
 
 use std::fmt;
@@ -30,6 +31,20 @@ impl<T> PerUnit<T> {
             UnitKind::Minutes => &self.minutes,
             UnitKind::Megabytes => &self.megabytes,
             UnitKind::Messages => &self.messages,
+        }
+    }
+
+    // For each unit what `f` makes of its thing.
+    pub fn map<U, F: Fn(&T) -> U>(&self, f: F) -> PerUnit<U>
+        requires { F.IsAlwaysCallable f }
+        ensures minutes { FnReturnsAt F.Fn f self.now.minutes result.minutes }
+        ensures megabytes { FnReturnsAt F.Fn f self.now.megabytes result.megabytes }
+        ensures messages { FnReturnsAt F.Fn f self.now.messages result.messages }
+    {
+        PerUnit {
+            minutes: f(&self.minutes),
+            megabytes: f(&self.megabytes),
+            messages: f(&self.messages),
         }
     }
 }

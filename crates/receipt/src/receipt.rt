@@ -43,12 +43,10 @@ impl Receipt {
         ensures { receipt_of result ≡ units_only (record { minutes = tally_of minutes; megabytes = tally_of megabytes; messages = tally_of messages }) }
     {
         Receipt {
-            fees: Sums(0),
-            use_charges: Sums(0),
-            switch_charges: Sums(0),
             minutes,
             megabytes,
             messages,
+            ..Receipt::nothing()
         }
     }
 

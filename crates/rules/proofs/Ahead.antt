@@ -1,6 +1,6 @@
 -- A call can be judged ahead of its due days on small books: what they leave depends on no old lot, and after a renewal
 -- a book holds at most one old lot, which ends on the due day that then stands, so that no book refuses to be set aside.
-use Rattle.std.proofs.Common.{◌≡◌, ℕ, zero, suc, ◌<◌, ◌≤◌, Bool, true, false, cond, not, ltb, leb, [], ◌∷◌, is_some, Some, None, Ok, Err, Option, sym, refl, ap, ◌∙◌, subst, inl, inr, arith}
+use Rattle.std.proofs.Common.{◌≡◌, ℕ, zero, suc, ◌≤◌, Bool, true, false, cond, not, ltb, leb, [], ◌∷◌, is_some, Some, None, Ok, Err, Option, sym, refl, ap, ◌∙◌, subst, inl, inr, arith}
 use Rattle.std.proofs.lemmas.Bool.Decides.{nat_tests}
 use Rattle.quantities.specs.Limits.{most_grant}
 use Rattle.quantities.specs.Units.{of}
@@ -195,9 +195,3 @@ module _ (w : World) (m n : ℕ) (h : 1 ≤ m) (k : 1 ≤ n) where
       let same : u ≡ v = p ∙ settle-stripped w.calendar D d s e l in
       let tidy : Tidy (lapse_all D v).state = tidy_lapse D v (tidy_due w.calendar D d s e l f) in
       ap (λ x. first_refusal (checks (holding w m) D c (lapse_all D x).state)) same ∙ ap first_refusal (same-checks D c (lapse_all D v).state tidy)
-
--- no due day stands at or before D: only the lapse is left to do
-pub rests_told : (w : World) (D : ℕ) (c : Call) (s : State) → ((d : Day) → s.status ≡ active d → D < d.0) →
-    first_refusal (checks w D c (lapse_all D s).state) ≡ first_refusal (checks w D c (bring_up w.calendar D s).state)
-unfolding Rests
-rests_told w D c s r = ap (λ (o : Out). first_refusal (checks w D c (lapse_all D o.state).state)) (sym (settle_rests w.calendar D s r (suc D)))

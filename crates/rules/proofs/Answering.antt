@@ -1,15 +1,15 @@
 -- For the code of a call: when what it did is what the rules say.
-use Rattle.std.proofs.Common.{◌≡◌, ℕ, ◌≤◌, Some, None, sym, ap, ◌∙◌}
+use Rattle.std.proofs.Common.{◌≡◌, ℕ, ◌≤◌, None, sym, ap, ◌∙◌}
 use Rattle.std.proofs.lemmas.Bool.{le-ltb}
 use Rattle.quantities.specs.Limits.{last_moment}
 use Rattle.rules.specs.declared.call.Event.{Event}
-use Rattle.rules.specs.Receipt.{Receipt, ◌⊕◌, nothing}
+use Rattle.rules.specs.Receipt.{Receipt, ◌⊕◌}
 use Rattle.rules.specs.State.{World, State, Account, Out, after, then}
 use Rattle.rules.specs.DueDays.{bring_up}
 use Rattle.rules.specs.Calls.{perform}
-use Rattle.rules.specs.Checks.{Refusal, first_refusal, checks, refusal, brought, day_of}
+use Rattle.rules.specs.Checks.{first_refusal, checks, refusal, brought, day_of}
 use Rattle.rules.specs.Runs.{Answer, step}
-use Rattle.rules.proofs.Steps.{step_accepts, step_refuses}
+use Rattle.rules.proofs.Steps.{step_accepts}
 
 abbrev made : State → Receipt → Out
 made s r = record { state = s; receipt = r }
@@ -22,11 +22,6 @@ in_time w a e D on p q =
     let y = le-ltb e.moment.0 a.latest q in
     let own : refusal w a e ≡ first_refusal (checks w (day_of e.moment.0) e.call (brought w e.moment.0 a).state) = cc in
     own ∙ sym (ap (λ d. first_refusal (checks w d e.call (bring_up w.calendar d a.state).state)) on)
-
-pub refused-from : (w : World) (a : Account) (e : Event) (f : Refusal) (r : Receipt) → refusal w a e ≡ Some f → r ≡ nothing →
-    let b : Answer = record { outcome = Some f; account = a; receipt = r } in b ≡ step w a e
-refused-from w a e f r h z =
-    ap (λ x. let b : Answer = record { outcome = Some f; account = a; receipt = x } in b) z ∙ sym (step_refuses w a e f h)
 
 -- t is the account brought up to day D, with the receipt p; u the account after the call, with q
 pub accepted-from : (w : World) (a : Account) (e : Event) (D : ℕ) → D ≡ day_of e.moment.0 → (t u : State) (p q r : Receipt) →

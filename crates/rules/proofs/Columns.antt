@@ -25,7 +25,7 @@ use Rattle.rules.specs.Runs.{Answer, accepted, step, run, opened}
 use Rattle.rules.specs.Laws.{paid_in, paid_by}
 use Rattle.rules.specs.Gregorian.{gregorian}
 use Rattle.rules.specs.Bounds.{most_column, ColumnsWithin, HundredYears, ColumnsBounded}
-use Rattle.rules.proofs.Closing.{Closes, closes_bring_up, out_of, closes_step, stands}
+use Rattle.rules.proofs.Closing.{Closes, out_of, closes_step, stands}
 use Rattle.rules.proofs.Steps.{step_accepts, step_refuses, told, passed}
 use Rattle.rules.proofs.Fees.{Renews, renews_bring_up, feeless_nothing}
 use Rattle.rules.proofs.FeesOfCalls.{OneFee, granted_once, fee_top_up, ungranted_serve, fee_restart, starts_switch}
@@ -108,12 +108,6 @@ columns_from n b bs o p q h c l =
       switch_charges = omega arith;
       units = λ k. let x = c.units k in let y = l k in let z = h k in omega arith;
     }
-
-pub bring_up_columns : (w : Calendar) → HundredYears w → (D : ℕ) → D ≤ last_call_day → (s : State) → WithinLimits s.terms → s.balance ≤ most_balance →
-    ((k : UnitKind) → left (of k s.books) ≤ most-left) → ColumnsWithin most_column (bring_up w D s).receipt
-bring_up_columns w y D l s h b books =
-    columns_from 0 s.balance s.books (bring_up w D s) (omega arith) b books (closes_bring_up w D s)
-    (λ k. let x = bring_up_lends w y D l s h k in omega arith)
 
 paid_most : (w : World) (D : ℕ) (c : Call) (s : State) → AllByRecursion (λ x. x.fails ≡ false) (checks w D c s) → paid_in c ≤ most_top_up
 paid_most w D (top_up n) s p = inside 1 most_top_up n.0 p.0

@@ -4,7 +4,8 @@ use quantities::time::{Day, Moment};
 use quantities::unit::UnitKind;
 use tariff::terms::PlanCode;
 
-// What a use is of: one of the three units, or messages abroad, which no allowance covers.
+// What a use is of: one of the three units, or messages abroad, which no allowance covers. Not an `Option<UnitKind>`, whose
+// `None` would not say messages abroad.
 #[derive(Clone, Copy, PartialEq, Eq, Debug)]
 pub enum Service {
     Counted(UnitKind),

@@ -1,38 +1,12 @@
 -- What a call did is what the rules say, accepted or refused.
 use Rattle.std.proofs.Common.{ℕ, ◌^◌, cond, sym, refl, ap, ◌∙◌, arith}
-use Rattle.std.proofs.lemmas.Result.{err_from_is_err_and}
 use Rattle.quantities.proofs.Order.{not_before}
 use Rattle.receipt.specs.Columns.{receipt_of}
-use Rattle.fault.specs.Faults.{refusal_of}
-use Rattle.rules.specs.State.{Out}
-use Rattle.rules.specs.Checks.{first_refusal, checks}
-use Rattle.rules.proofs.Answering.{in_time, refused-from, accepted-from}
+use Rattle.rules.proofs.Answering.{in_time, accepted-from}
 use Rattle.ledger.specs.Meaning.{state_of}
 use Rattle.ledger.proofs.Turns.{all_below_more}
 use Rattle.account.specs.Meaning.{account_of, world}
 use Rattle.account.proofs.account.Account.make.Goals as goal
-
-pub returns-in_err-judge : goal.returns-in_err-judge
-returns-in_err-judge g c =
-    let p = err_from_is_err_and c.from_residual.result c.from_residual.ensures.1 in
-    let a = c.args.self.now in
-    let e = c.args.event in
-    let w = world (g.L.Line.tariff a.line) g.B.Book.CAPACITY in
-    let s = account_of g.B.Book.means a in
-    let (soon, on) = c.in-Some.ensures in
-    let told = in_time w s e c.in-Some.day.day.0 on soon (not_before _ _ c.if-lt.ensures) ∙ sym c.in_err-judge.ensures.told in
-    rw (p.1, p.2)
-    record {
-      does = refused-from w s e (refusal_of c.in_err-judge.field-0.0) (receipt_of c.nothing.result) told c.nothing.ensures;
-      line = refl;
-      same = λ _. refl;
-    }
-
-pub perform-done-requires : goal.perform-done-requires
-perform-done-requires g c =
-    let brought = ap (λ (o : Out). o.state) c.bring_up-brought.ensures.does in
-    let w = world (g.L.Line.tariff c.args.self.now.line) g.B.Book.CAPACITY in
-    ap (λ x. first_refusal (checks w c.in-Some.day.day.0 c.args.event.call x)) brought ∙ sym c.in_ok-judge.ensures.told
 
 pub returns : goal.returns
 returns g c =
