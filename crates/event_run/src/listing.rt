@@ -4,11 +4,16 @@ ghost use Rattle.event_run.specs.Listing.{Lists};
 use crate::journal::Journal;
 use crate::posted::Posted;
 
-impl Journal for Vec<Posted> {
+// Whoever runs a file sets room aside for all of its postings first.
+#[derive(Drop)]
+pub(crate) struct Listing {
+    pub(crate) list: Vec<Posted>,
+}
+
+impl Journal for Listing {
     ghost takes = { Lists };
 
-    // A list with room takes a posting at its end; whoever runs a file sets the room aside first.
     fn post(&mut self, posted: Posted) {
-        let _ = self.push(posted);
+        let _ = self.list.push(posted);
     }
 }

@@ -14,7 +14,8 @@ use event_file::records::Records;
 use event_file::trailer::Trailer;
 use tariff::line::Line;
 
-// Opens the account that a file names, and the reader of its records. A refused opening lets the line and the books go.
+// Opens the account that a file names, and the reader of its records. A refused opening lets the line and the books go. File
+// and provision are two parameters: one is lent, and the other used up.
 pub(crate) fn open_file<L: Line + Drop, B: Book + Drop>(
     file: &[u8],
     provision: Provision<L, B>,

@@ -22,6 +22,7 @@ pub(crate) fn post<L: Line, B: Book>(account: &mut Account<L, B>, part: Part<'_>
 {
     let place = part.place;
     let mut receipt = Receipt::nothing();
+    // a match, since only a right record makes a call
     let outcome = match event_of(part.bytes) {
         None => Err(FileFault::WrongRecord(place)),
         Some(event) => account

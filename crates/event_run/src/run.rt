@@ -6,6 +6,7 @@ ghost use Rattle.event_run.specs.Coded.{posting_of, file_refusal_told};
 ghost use Rattle.event_run.specs.FileLaw.{LawOfFile};
 
 use crate::journal_run::post_records;
+use crate::listing::Listing;
 use crate::opening::open_file;
 use crate::posted::Posted;
 use crate::stopped::Stopped;
@@ -22,7 +23,8 @@ pub struct Run<L, B> {
     pub posted: Vec<Posted>,
 }
 
-// Opens the account that the file names on the line, with the books, and makes the call of each record.
+// Opens the account that the file names on the line, with the books, and makes the call of each record. Beside `post_file`,
+// since a list can want memory, and a journal has no such answer.
 pub fn run_file<L: Line + Drop, B: Book + Drop>(
     heap: Global,
     file: &[u8],
@@ -35,7 +37,11 @@ pub fn run_file<L: Line + Drop, B: Book + Drop>(
     ensures law { IfOk result (λ x. LawOfFile (world (L.Line.tariff provision.line) B.Book.CAPACITY) file.now (map posting_of x.posted.items) (account_of B.Book.means x.account)) }
 {
     let (mut account, mut records) = open_file(file, provision)?;
-    let mut posted = Vec::with_capacity(heap, records.len())?;
-    post_records(&mut account, &mut records, &mut posted);
-    Ok(Run { account, posted })
+    let list = Vec::with_capacity(heap, records.len())?;
+    let mut listing = Listing { list };
+    post_records(&mut account, &mut records, &mut listing);
+    Ok(Run {
+        account,
+        posted: listing.list,
+    })
 }

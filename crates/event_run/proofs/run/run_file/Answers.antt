@@ -14,8 +14,8 @@ returns-clause-posted g c =
     let a = account_of g.B.Book.means c.in_ok-account.account in
     let r = c.in_ok-account.records in
     let many = length-postings w a (coming r) ∙ length-parts_from r.file.now r.first r.index r.left in
-    let all = listed c.in_ok-posted.posted (postings w a (coming r)) c.post_records.new.journal c.post_records.ensures.posted (omega (arith, many, c.len.ensures.value, c.in_ok-posted.ensures.len, c.in_ok-posted.ensures.capacity)) in
-    let from_none = rw c.in_ok-posted.ensures.items at all in
+    let all = listed (record { list = c.in_ok-list.list }) (postings w a (coming r)) c.post_records.new.journal c.post_records.ensures.posted (omega (arith, many, c.len.ensures.value, c.in_ok-list.ensures.len, c.in_ok-list.ensures.capacity)) in
+    let from_none = rw c.in_ok-list.ensures.items at all in
     search (rules, from_none)
 
 pub returns-clause-law : goal.returns-clause-law
