@@ -37,7 +37,7 @@ pub fn perform<B: Book>(book: &mut B, step: Step) -> Answer
     })
 }
 
-fn look<B: Book>(book: &B) -> Look
+pub fn look<B: Book>(book: &B) -> Look
     ensures value { result ≡ seen (B.Book.means book.now) }
 {
     Look {
@@ -49,7 +49,7 @@ fn look<B: Book>(book: &B) -> Look
 }
 
 // What set aside would answer after a lapse.
-fn ask<B: Book>(book: &B) -> Answer
+pub fn ask<B: Book>(book: &B) -> Answer
     ensures value { result ≡ asked B.Book.CAPACITY (B.Book.means book.now) }
 {
     book.set_aside_after(LATER, END, CAP)?;

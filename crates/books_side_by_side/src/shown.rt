@@ -5,6 +5,7 @@ ghost use Rattle.books_side_by_side.specs.Shown.{step_text, told_text, answer_te
 use crate::steps::{Answer, Look, Side, Step, Told};
 use std::fmt;
 
+// Days by their numbers: a `Display` of a day would show its date.
 impl fmt::Display for Step {
     ghost output = { λ s. Some (step_text s) };
 

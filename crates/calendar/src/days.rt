@@ -23,6 +23,7 @@ impl fmt::Display for PastCalendar {
     ghost output = { λ e. Some (codes "day " ++ (decimal e.0.0 ++ codes " is past the calendar")) };
 
     fn fmt<W: fmt::Write>(&self, f: &mut fmt::Formatter<W>) -> fmt::Result {
+        // by its number, since it has no date
         write!(f, "day {} is past the calendar", self.0.0)
     }
 }

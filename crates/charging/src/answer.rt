@@ -11,8 +11,8 @@ impl HostFault {
         match self {
             HostFault::TooShort => 100,
             HostFault::NoSuchBooks => 101,
-            HostFault::File(fault) => fault.number() as u32,
-            HostFault::Opening(fault) => fault.number() as u32,
+            HostFault::File(fault) => u32::from(fault.number()),
+            HostFault::Opening(fault) => u32::from(fault.number()),
         }
     }
 }

@@ -1,5 +1,6 @@
 // The kind of books is picked by the old lots that each has room for: 31 or 1, a number since a host in C picks it. The
 // choice is written out for each question: a closure that is passed in takes books of one type, and the choice is the type.
+// Apart from the exports, so that the law is owed at one place.
 ghost use Rattle.std.specs.Prelude.{◌≡◌, length, if◌then◌else◌, nat_eq};
 ghost use Rattle.event_run.specs.Postings.{file_postings, file_closing};
 ghost use Rattle.event_run.specs.FileLaw.{total};

@@ -41,6 +41,7 @@ fn reason_number(fault: BookFault) -> u64
     }
 }
 
+// Numbers, since a host in C reads a row of them.
 fn outcome_row(outcome: Result<(), FileFault>) -> [u64; 3]
     ensures { result ≡ outcome_row (file_outcome_of outcome) }
 {
@@ -53,7 +54,7 @@ fn outcome_row(outcome: Result<(), FileFault>) -> [u64; 3]
         }
         _ => (0, 0),
     };
-    [fault.number() as u64, unit, reason]
+    [u64::from(fault.number()), unit, reason]
 }
 
 fn put_posting(out: &mut [u64], at: usize, posted: Posted)

@@ -27,34 +27,37 @@ fn tally_row<K>(tally: Tally<K>) -> [u64; 7]
     ]
 }
 
-// Fees, use charges and switch charges, and seven columns for each unit.
+// Fees, use charges and switch charges, and seven columns for each unit, one after another: each tally has a type of its own.
 pub(crate) fn receipt_row(receipt: Receipt) -> [u64; 24]
     ensures { result ≡ receipt_row (receipt_of receipt) }
 {
-    let Receipt {
-        fees,
-        use_charges,
-        switch_charges,
-        ..
-    } = receipt;
     let mut row = [0; 24];
-    put(&mut row, 0, &[fees.0, use_charges.0, switch_charges.0]);
+    put(
+        &mut row,
+        0,
+        &[
+            receipt.fees.0,
+            receipt.use_charges.0,
+            receipt.switch_charges.0,
+        ],
+    );
     put(&mut row, 3, &tally_row(receipt.minutes));
     put(&mut row, 10, &tally_row(receipt.megabytes));
     put(&mut row, 17, &tally_row(receipt.messages));
     row
 }
 
+// Numbers, since a host in C reads a row of them.
 fn status_row(status: Status) -> [u64; 2]
     ensures { result ≡ status_row status }
 {
     match status {
         Status::Blocked => [0, 0],
-        Status::Active(due) => [1, due.0 as u64],
+        Status::Active(due) => [1, u64::from(due.0)],
     }
 }
 
-// The balance, the status, and what is left of each unit.
+// The balance, the status, and what is left of each unit, in the order of the row.
 pub(crate) fn state_row<L, B: Book>(account: &Account<L, B>) -> [u64; 6]
     ensures { result ≡ state_row (account_of B.Book.means account.now).state }
 {
@@ -63,8 +66,8 @@ pub(crate) fn state_row<L, B: Book>(account: &Account<L, B>) -> [u64; 6]
         account.balance().0,
         active,
         due,
-        account.units_left(UnitKind::Minutes) as u64,
-        account.units_left(UnitKind::Megabytes) as u64,
-        account.units_left(UnitKind::Messages) as u64,
+        u64::from(account.units_left(UnitKind::Minutes)),
+        u64::from(account.units_left(UnitKind::Megabytes)),
+        u64::from(account.units_left(UnitKind::Messages)),
     ]
 }

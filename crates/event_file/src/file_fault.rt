@@ -13,7 +13,8 @@ pub struct Place {
 }
 
 impl Place {
-    // The place that is told where no record is refused: of a wrong file, and of a refused opening.
+    // The place that is told where no record is refused: of a wrong file, and of a refused opening. No `Option<Place>`, since
+    // index 0 and offset 0 are told there.
     pub const NO_RECORD: Place = Place {
         index: 0,
         offset: 0,

@@ -66,6 +66,7 @@ pub fn event_of(bytes: &[u8; 16]) -> Option<Event>
     };
     let kind = Kind::try_from(kind).ok()?;
     let amount = u32::from_le_bytes([a, b, c, d]);
+    // an arm for each call: each kind has bytes of its own that must be zero
     let call = match kind {
         Kind::TopUp if code == 0 => Call::TopUp(Sums(u64::from(amount))),
         Kind::Use => Call::Use(service_of(code), amount),

@@ -23,7 +23,8 @@ pub(crate) fn fill_book<K, B: Book>(book: &mut B, amount: Count<K>) -> Tally<K>
     }
 }
 
-// At a paid due day: the book carries to the next due day, or is cleared as ended.
+// At a paid due day: the book carries to the next due day, or is cleared as ended. The end counts only where it carries; an
+// `Option` of both would be put together by the caller and taken apart here.
 pub(crate) fn close_book<K, B: Book>(book: &mut B, carries: bool, end: Day) -> Tally<K>
     ensures book { B.Book.means book.new ≡ closed carries end.0 (B.Book.means book.old) }
     ensures tally { tally_of result ≡ closing carries (B.Book.means book.old) }
@@ -31,10 +32,10 @@ pub(crate) fn close_book<K, B: Book>(book: &mut B, carries: bool, end: Day) -> T
 {
     if carries {
         let old = book.carry(end);
-        Tally::ended(old as u64, 0)
+        Tally::ended(u64::from(old), 0)
     } else {
         let cleared = book.clear();
-        Tally::ended(cleared.fresh as u64 + cleared.old as u64, 0)
+        Tally::ended(u64::from(cleared.fresh) + u64::from(cleared.old), 0)
     }
 }
 
@@ -45,7 +46,7 @@ pub(crate) fn forfeit_book<K, B: Book>(book: &mut B) -> Tally<K>
     ensures small { Below (2 ^ 34) (tally_of result) }
 {
     let cleared = book.clear();
-    Tally::ended(cleared.old as u64, cleared.fresh as u64)
+    Tally::ended(u64::from(cleared.old), u64::from(cleared.fresh))
 }
 
 // Old lots that have come to their end by the day are dropped.
@@ -55,5 +56,5 @@ pub(crate) fn lapse_book<K, B: Book>(book: &mut B, day: Day) -> Tally<K>
     ensures small { Below (2 ^ 34) (tally_of result) }
 {
     let old = book.lapse(day);
-    Tally::ended(old as u64, 0)
+    Tally::ended(u64::from(old), 0)
 }

@@ -29,6 +29,7 @@ impl<B: Book> Ledger<B> {
         total
     }
 
+    // Unit by unit: each tally has a type of its own.
     fn lapse(&mut self, day: CallDay) -> Receipt
         ensures does { FollowsRule B.Book.means (lapse_all day.day.0) self.old self.new result }
         ensures small { AllBelow (2 ^ 34) (receipt_of result) }

@@ -14,6 +14,7 @@ use receipt::receipt::Receipt;
 use rules::call::Status;
 
 impl<B: Book> Ledger<B> {
+    // Unit by unit: each tally has a type of its own.
     pub(crate) fn close_month(&mut self, end: Day) -> Receipt
         ensures does { FollowsRule B.Book.means (close_month end.0) self.old self.new result }
         ensures small { AllBelow (2 ^ 34) (receipt_of result) }
@@ -25,6 +26,7 @@ impl<B: Book> Ledger<B> {
         Receipt::of_units(minutes, megabytes, messages)
     }
 
+    // Unit by unit, as above.
     pub(crate) fn block(&mut self) -> Receipt
         ensures does { FollowsRule B.Book.means blocked_out self.old self.new result }
         ensures small { AllBelow (2 ^ 34) (receipt_of result) }

@@ -14,7 +14,8 @@ use receipt::receipt::Receipt;
 use rules::call::Status;
 
 impl<B: Book> Ledger<B> {
-    // The balance falls by the fee, the status is active until the next due day, the option goes off, the books are filled.
+    // The balance falls by the fee, the status is active until the next due day, the option goes off, the books are filled,
+    // unit by unit: each tally has a type of its own.
     pub fn take_fee(&mut self, day: CallDay) -> Receipt
         ensures does { FollowsRule B.Book.means (take_fee gregorian day.day.0) self.old self.new result }
         ensures small { AllBelow (2 ^ 34) (receipt_of result) }

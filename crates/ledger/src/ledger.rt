@@ -9,7 +9,8 @@ use quantities::unit::PerUnit;
 use rules::call::Status;
 use tariff::terms::{PlanCode, Terms};
 
-// All of an account that bringing it up to a day can change, over three books.
+// All of an account that bringing it up to a day can change, over three books. No model, as for an account. That an anchor
+// is 1 to 31 is said here: `Anchor` takes any number, since `due_day` is asked about any.
 #[derive(Drop)]
 pub struct Ledger<B> {
     pub plan: PlanCode,

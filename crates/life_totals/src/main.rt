@@ -31,6 +31,7 @@ fn print_totals(rt: &HostRuntime, total: Receipt) -> anyhow::Result<()> {
         "sums {} {} {}",
         total.fees, total.use_charges, total.switch_charges
     )?;
+    // unit by unit: each tally has a type of its own
     print_tally(rt, "minutes", total.minutes)?;
     print_tally(rt, "megabytes", total.megabytes)?;
     print_tally(rt, "messages", total.messages)

@@ -25,7 +25,8 @@ pub(crate) const FREE: u64 = 0;
 
 pub(crate) const CHARGE: u64 = 2_105;
 
-// The fee of a plan by the number in its name.
+// The fee of a plan by the number in its name. That number keeps to its range by a premise here and in the two below: a type
+// for it would have to be made, with its proof, in each row of a table.
 fn named(name: u32) -> Fee
     requires { (1 ≤ name) × (name ≤ 10_000) }
     ensures value { result.sums.0 ≡ name * 1_000 }

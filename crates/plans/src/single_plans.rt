@@ -8,7 +8,8 @@ use tariff::terms::{Entry, Fate, PlanCode, Terms};
 // What is left at a due day ends.
 const CARRIES: bool = false;
 
-// A type of its own, and not one type over rows: the two matches are the line's tables.
+// A type of its own, and not one type over rows: the two matches are the line's tables, and rows would have to spell out
+// code by code what ranges and guards say at once.
 #[derive(Clone, Copy)]
 pub struct SinglePlans;
 

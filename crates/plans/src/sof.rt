@@ -8,7 +8,8 @@ use tariff::terms::{Entry, Fate, PlanCode, Terms};
 // In each plan of the line, what is left at a paid due day is carried.
 const CARRIES: bool = true;
 
-// A type of its own, and not one type over rows: the two matches are the line's tables.
+// A type of its own, and not one type over rows: the two matches are the line's tables, and rows would have to spell out
+// code by code what ranges and guards say at once.
 #[derive(Clone, Copy)]
 pub struct Sof;
 

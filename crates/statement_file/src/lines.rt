@@ -8,6 +8,7 @@ use event_run::posted::Posted;
 use statement_text::line::record_line;
 use std::alloc::{AllocError, Global};
 
+// A number, since the line of a record has one in its place, 0 where the call was accepted.
 fn number_of(outcome: Result<(), FileFault>) -> u8
     ensures value { result ≡ outcome_number (file_outcome_of outcome) }
 {

@@ -47,6 +47,7 @@ impl From<AllocError> for NoStatement {
     }
 }
 
+// Apart from `statement`, so that the law is owed at one place, and not at each way out.
 fn written<L: Line + Drop, B: Book + Drop>(
     heap: Global,
     file: &[u8],

@@ -9,7 +9,7 @@ use rules::call::Status;
 use std::alloc::{AllocError, Global};
 
 // The line of a record: its index, its refusal's number or 0, what its call took by its receipt, and the balance after it.
-// A refusal comes as its number, which is all that a line tells of it: the kinds of refusal stand in crates beside this one.
+// A refusal comes as its number, which is all that a line tells of it.
 pub fn record_line(
     heap: Global,
     index: u32,
@@ -41,7 +41,7 @@ pub fn last_line(heap: Global, status: Status) -> Result<Option<String>, AllocEr
     }
 }
 
-// The one line of a refused file or opening.
+// The one line of a refused file or opening. It comes as its number, which is all that the line tells of it.
 pub fn refused_line(heap: Global, number: u8) -> Result<String, AllocError>
     ensures text { IfOk result (λ s. string_bytes s ≡ refused_text number) }
 {

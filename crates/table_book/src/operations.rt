@@ -44,6 +44,7 @@ impl Book for Table {
 
     ghost kept = { first_of (Prim.search rules, Prim.grind (arith, Self.row.coded.inj)) };
 
+    // in each book: a default of the trait would reach no field
     fn fill(&mut self, n: u32) -> Result<(), BookFault> {
         if self.fresh != 0 {
             return Err(BookFault::NotEmpty);
@@ -99,6 +100,7 @@ impl Book for Table {
         self.fresh + self.old.sum()
     }
 
+    // in each book: a default of the trait would reach no field
     fn fresh_after(&self, _day: Day) -> u32 {
         self.fresh
     }

@@ -27,7 +27,7 @@ pub struct UnitTerms<K> {
 // A plan's terms for messages abroad, which no allowance covers.
 #[derive(Clone, Copy)]
 pub struct InternationalTerms {
-    // a flag beside the price, as in `UnitTerms`
+    // a flag beside the price, which a line tells, and the table of plans prints, whether it is offered or not
     pub offered: bool,
     pub price: Price<InternationalMessage>,
 }

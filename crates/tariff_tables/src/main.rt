@@ -23,6 +23,7 @@ fn print_unit<K>(rt: &HostRuntime, unit: &str, terms: &UnitTerms<K>) -> io::Resu
 
 fn print_terms(rt: &HostRuntime, code: u8, terms: &Terms) -> io::Result<()> {
     println!(rt; "plan {code}: fee {}", terms.fee.sums)?;
+    // unit by unit: the terms of each have a type of their own
     print_unit(rt, "minutes", &terms.minutes)?;
     print_unit(rt, "megabytes", &terms.megabytes)?;
     print_unit(rt, "messages", &terms.messages)?;

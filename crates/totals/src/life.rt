@@ -22,7 +22,8 @@ pub struct Life<L, B> {
     pub total: Receipt,
 }
 
-// The life that an event file tells, on the line and with the books.
+// The life that an event file tells, on the line and with the books. The clauses are those of `post_file`, said of a life: one
+// record over both would take the shape of the answer as a parameter.
 pub fn life_of_file<L: Line + Drop, B: Book + Drop>(
     file: &[u8],
     provision: Provision<L, B>,
