@@ -43,7 +43,7 @@ POINTS = {
         'arrays of a fixed size': r'\[\w+; \w+\]',
     },
     '7 switches on a step': {
-        'function pointers, dyn, closures': r'\bdyn \w|: fn\(|Fn\(|FnMut\(|FnOnce\(|= \|',
+        'function pointers, dyn, closures': r'\bdyn \w|: fn\(|Fn\(|FnMut\(|FnOnce\(|[(=] ?(move )?\|[^|]*\|',
         'matches on which step or kind': r'match (step|cause|lots|\*self|self|call|kind|\(ledger\.status, call\))\b',
     },
 }
