@@ -1,5 +1,6 @@
 -- The sum and the order of lots, and what drawing, lapsing and an amount as a lot make of them.
-use Rattle.std.proofs.Common.{◌≡◌, ℕ, ◌+◌, ◌-◌, ◌<◌, ◌≤◌, Bool, true, List, [], ◌∷◌, ◌++◌, length, filter, refl, arith}
+use Rattle.std.proofs.Common.{◌≡◌, ℕ, ◌+◌, ◌-◌, ◌<◌, ◌≤◌, Bool, true, List, [], ◌∷◌, ◌++◌, length, take, drop, filter, refl, ap, arith}
+use Rattle.std.proofs.lemmas.List.{take-append-drop}
 use Rattle.std.proofs.lemmas.Bool.Decides.{nat_tests}
 use Rattle.std.proofs.lemmas.Bool.{cond_both}
 use Rattle.book.specs.declared.lot.Lot.{Lot}
@@ -9,6 +10,12 @@ use Rattle.book.specs.Allowance.{units, rising, undrawn, ended, lasting, as_lot}
 pub units-append : (ks ls : List Lot) → units (ks ++ ls) ≡ units ks + units ls
 units-append [] ls = omega arith
 units-append (k ∷ ks) ls = let h = units-append ks ls in omega arith
+
+pub units_rest : (ls : List Lot) (i : ℕ) → units (drop i ls) ≤ units ls
+units_rest ls i =
+    let h = units-append (take i ls) (drop i ls) in
+    let e = ap units (take-append-drop i ls) in
+    omega arith
 
 pub units_kept : (p : Lot → Bool) (ls : List Lot) → units (filter p ls) ≤ units ls
 units_kept p [] = omega arith

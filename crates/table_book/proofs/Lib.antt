@@ -1,3 +1,5 @@
+mod Copies
 mod Lasting
 mod Places
+mod Rows
 mod Sums

@@ -7,7 +7,7 @@ ghost use Rattle.table_book.specs.Held.{held};
 use crate::lots::Lots;
 
 // The old lots, in the order of their ends, and the fresh amount.
-#[derive(Drop)]
+#[derive(Clone, Copy)]
 pub struct Table {
     pub(crate) old: Lots,
     pub(crate) fresh: u32,

@@ -7,18 +7,21 @@ use Rattle.book.specs.Allowance.{units, with_lot, with_capped}
 use Rattle.book.proofs.Gathering.{units_with, length_with}
 use Rattle.table_book.specs.Held.{held}
 use Rattle.table_book.specs.Room.{room_answer}
+use Rattle.table_book.proofs.Rows.{length-held}
 use Rattle.table_book.proofs.lots.Lots.aside.Goals as goal
 
 pub returns-in_err-add : goal.returns-in_err-add
 returns-in_err-add c =
     let n = length_with c.capped.result (held c.loop-lot.next) in
+    let m = length-held c.args.self.now in
+    let w = ap length c.standing-lot-items.ensures in
     absurd (let room : room_answer (with_lot c.capped.result (held c.loop-lot.next)) ≡ Ok tt = grind (arith, nat_tests) in cc (c.in_err-add.ensures.answer, room))
 
 pub loop-lot-preserved : goal.loop-lot-preserved
 loop-lot-preserved c =
     let ls = held c.args.self.now in
-    let xs = c.deref-lot-items.result.now in
-    let same = c.deref-lot-items.ensures.0 in
+    let xs = c.standing-lot-items.result.now in
+    let same = c.standing-lot-items.ensures in
     let i = c.loop-lot.lot-index in
     let none : Lot = record { amount = 0; end = record { 0 = 0 } } in
     let rest = drop (i + 1) ls in
