@@ -40,6 +40,10 @@ fn print_terms(rt: &HostRuntime, code: u8, terms: &Terms) -> io::Result<()> {
     println!(rt; "  what is left {left}")
 }
 
+fn has_terms(line: &ThreeLines, code: u8) -> bool {
+    line.terms(PlanCode(code)).is_some()
+}
+
 // Prints the terms of the codes that have any, and says how many have none.
 fn print_plans(rt: &HostRuntime, line: &ThreeLines) -> io::Result<()> {
     for code in 0..=255u8 {
@@ -47,9 +51,7 @@ fn print_plans(rt: &HostRuntime, line: &ThreeLines) -> io::Result<()> {
             print_terms(rt, code, &terms)?;
         }
     }
-    let without = (0..=255u8)
-        .filter(|code| line.terms(PlanCode(*code)).is_none())
-        .count();
+    let without = (0..=255u8).filter(|code| !has_terms(line, *code)).count();
     println!(rt; "{without} codes without terms")
 }
 
@@ -64,14 +66,12 @@ fn print_entry(rt: &HostRuntime, line: &ThreeLines, from: u8, to: u8) -> io::Res
     println!(rt; "from {from} to {to}: {} {fate}", entry.price)
 }
 
-// Prints what leads from each code that has terms to each that has.
+// Prints what leads from each code that has terms to each that has. The codes are asked again for each, since a list of them
+// would want memory, and this program wants none.
 fn print_entries(rt: &HostRuntime, line: &ThreeLines) -> io::Result<()> {
-    let codes: Vec<u8> = (0..=255u8)
-        .filter(|code| line.terms(PlanCode(*code)).is_some())
-        .collect(rt.alloc())?;
-    for from in &codes {
-        for to in &codes {
-            print_entry(rt, line, *from, *to)?;
+    for from in (0..=255u8).filter(|code| has_terms(line, *code)) {
+        for to in (0..=255u8).filter(|code| has_terms(line, *code)) {
+            print_entry(rt, line, from, to)?;
         }
     }
     Ok(())
