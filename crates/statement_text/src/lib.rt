@@ -1,4 +1,5 @@
 // The text of a statement.
 #![tactic(auto)]
 
+pub mod date;
 pub mod line;
