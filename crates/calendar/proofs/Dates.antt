@@ -19,14 +19,14 @@ pub record Month (y m : ℕ) : Type 0 where
   pub one : 1 ≤ m
   pub twelve : m ≤ 12
 
-month_parts : (y m : ℕ) → has_month y m ≡ true → Month y m
+pub month_parts : (y m : ℕ) → has_month y m ≡ true → Month y m
 month_parts y m v =
     let a = and_parts _ _ v in
     let b = and_parts _ _ a.1 in
     let c = and_parts _ _ b.1 in
     record { early = leb-true _ _ a.0; late = leb-true _ _ b.0; one = leb-true _ _ c.0; twelve = leb-true _ _ c.1 }
 
-month_whole : (y m : ℕ) → Month y m → has_month y m ≡ true
+pub month_whole : (y m : ℕ) → Month y m → has_month y m ≡ true
 month_whole y m p = and_from _ _ (le-leb _ _ p.early) (and_from _ _ (le-leb _ _ p.late) (and_from _ _ (le-leb _ _ p.one) (le-leb _ _ p.twelve)))
 
 pub record Parts (t : Date) : Type 0 where
@@ -40,21 +40,21 @@ parts t v =
     let b = and_parts _ _ a.1 in
     record { month = month_parts t.year t.month a.0; low = leb-true _ _ b.0; high = leb-true _ _ b.1 }
 
-whole : (t : Date) → Parts t → exists t ≡ true
+pub whole : (t : Date) → Parts t → exists t ≡ true
 whole t p = and_from _ _ (month_whole t.year t.month p.month) (and_from _ _ (le-leb _ _ p.low) (le-leb _ _ p.high))
 
 -- ## A month of a year, counted from January 2000
 
-abbrev place : ℕ → ℕ → ℕ
+abbrev pub place : ℕ → ℕ → ℕ
 place y m = (y - 2000) * 12 + (m - 1)
 
-record Placed (y m : ℕ) : Type 0 where
+pub record Placed (y m : ℕ) : Type 0 where
   pub year : year_of (place y m) ≡ y
   pub month : month_of_year (place y m) ≡ m
   pub length : month_length (place y m) ≡ days_in y m
   pub within : place y m < months
 
-placed : (y m : ℕ) → Month y m → Placed y m
+pub placed : (y m : ℕ) → Month y m → Placed y m
 placed y m p =
     let h : m - 1 < 12 = omega arith in
     let d : place y m / 12 ≡ y - 2000 = digits_div (y - 2000) h in
@@ -65,7 +65,7 @@ placed y m p =
 
 -- ## Day to date and date to day
 
-number-date_of : (d : ℕ) → number (date_of d) ≡ d
+pub number-date_of : (d : ℕ) → number (date_of d) ≡ d
 unfolding month_day
 number-date_of d =
     let w = month_of-within d in

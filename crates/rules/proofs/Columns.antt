@@ -1,5 +1,5 @@
 -- No column of a receipt passes what 32 bits hold, for any account within the limits.
-use Rattle.std.proofs.Common.{◌≡◌, ℕ, ◌+◌, ◌*◌, ◌≤◌, false, Some, None, Option, sym, refl, subst, inl, inr, ⊎_elim, mul-le-mul, arith}
+use Rattle.std.proofs.Common.{◌≡◌, ℕ, suc, ◌+◌, ◌*◌, ◌≤◌, false, Some, None, Option, sym, refl, subst, inl, inr, ⊎_elim, mul-le-mul, arith}
 use Rattle.std.specs.List.{AllByRecursion}
 use Rattle.std.proofs.lemmas.Bool.{ltb-false}
 use Rattle.std.proofs.lemmas.Bool.Decides.{nat_tests}
@@ -18,14 +18,14 @@ use Rattle.rules.specs.declared.call.Call.TheVariants.{TopUp as top_up, Use as u
 use Rattle.rules.specs.declared.call.Event.{Event}
 use Rattle.rules.specs.Receipt.{Receipt, ◌⊕◌, nothing}
 use Rattle.rules.specs.State.{Calendar, World, State, Account, Out, same}
-use Rattle.rules.specs.DueDays.{bring_up}
+use Rattle.rules.specs.DueDays.{settle, lapse_all, bring_up}
 use Rattle.rules.specs.Calls.{serve, perform, switch_to, switched}
 use Rattle.rules.specs.Checks.{Refusal, outside, checks, all_checks, day_of, brought, refusal}
 use Rattle.rules.specs.Runs.{Answer, accepted, step, run, opened}
 use Rattle.rules.specs.Laws.{paid_in, paid_by}
 use Rattle.rules.specs.Gregorian.{gregorian}
 use Rattle.rules.specs.Bounds.{most_column, ColumnsWithin, HundredYears, ColumnsBounded}
-use Rattle.rules.proofs.Closing.{Closes, out_of, closes_step, stands}
+use Rattle.rules.proofs.Closing.{Closes, closes_bring_up, out_of, closes_step, stands}
 use Rattle.rules.proofs.Steps.{step_accepts, step_refuses, told, passed}
 use Rattle.rules.proofs.Fees.{Renews, renews_bring_up, feeless_nothing}
 use Rattle.rules.proofs.FeesOfCalls.{OneFee, granted_once, fee_top_up, ungranted_serve, fee_restart, starts_switch}
@@ -97,6 +97,31 @@ lends_then g l r s p z q = elim [ Minutes ↦ at Minutes | Megabytes ↦ at Mega
 pub columns_nothing : (n : ℕ) → ColumnsWithin n nothing
 columns_nothing n = record { fees = omega arith; use_charges = omega arith; switch_charges = omega arith; units = elim [ Minutes ↦ omega arith | Megabytes ↦ omega arith | Messages ↦ omega arith ] }
 
+-- a part of a receipt is within what the whole is within
+pub columns_first : (n : ℕ) (r s : Receipt) → ColumnsWithin n (r ⊕ s) → ColumnsWithin n r
+columns_first n r s h = record {
+  fees = let x = h.fees in omega arith;
+  use_charges = let x = h.use_charges in omega arith;
+  switch_charges = let x = h.switch_charges in omega arith;
+  units = elim [
+    | Minutes ↦ (let x = h.units Minutes in omega arith)
+    | Megabytes ↦ (let x = h.units Megabytes in omega arith)
+    | Messages ↦ (let x = h.units Messages in omega arith)
+  ];
+}
+
+pub columns_second : (n : ℕ) (r s : Receipt) → ColumnsWithin n (r ⊕ s) → ColumnsWithin n s
+columns_second n r s h = record {
+  fees = let x = h.fees in omega arith;
+  use_charges = let x = h.use_charges in omega arith;
+  switch_charges = let x = h.switch_charges in omega arith;
+  units = elim [
+    | Minutes ↦ (let x = h.units Minutes in omega arith)
+    | Megabytes ↦ (let x = h.units Megabytes in omega arith)
+    | Messages ↦ (let x = h.units Messages in omega arith)
+  ];
+}
+
 -- what is charged was held or paid in, and what goes out of a book was left or granted
 columns_from : (n b : ℕ) (bs : PerUnit Allowance) (o : Out) → n ≤ most_top_up → b ≤ most_balance → ((k : UnitKind) → left (of k bs) ≤ most-left) →
     Closes n b bs o → Lends (1201 * most_grant) o.receipt → ColumnsWithin most_column o.receipt
@@ -108,6 +133,18 @@ columns_from n b bs o p q h c l =
       switch_charges = omega arith;
       units = λ k. let x = c.units k in let y = l k in let z = h k in omega arith;
     }
+
+pub bring_up_columns : (w : Calendar) → HundredYears w → (D : ℕ) → D ≤ last_call_day → (s : State) → WithinLimits s.terms → s.balance ≤ most_balance →
+    ((k : UnitKind) → left (of k s.books) ≤ most-left) → ColumnsWithin most_column (bring_up w D s).receipt
+bring_up_columns w y D l s h b books =
+    columns_from 0 s.balance s.books (bring_up w D s) (omega arith) b books (closes_bring_up w D s)
+    (λ k. let x = bring_up_lends w y D l s h k in omega arith)
+
+pub settle_columns : (w : Calendar) → HundredYears w → (D : ℕ) → D ≤ last_call_day → (s : State) → WithinLimits s.terms → s.balance ≤ most_balance →
+    ((k : UnitKind) → left (of k s.books) ≤ most-left) → ColumnsWithin most_column (settle w (suc D) D s).receipt
+settle_columns w y D l s h b books =
+    let o = settle w (suc D) D s in
+    columns_first most_column o.receipt (lapse_all D o.state).receipt (bring_up_columns w y D l s h b books)
 
 paid_most : (w : World) (D : ℕ) (c : Call) (s : State) → AllByRecursion (λ x. x.fails ≡ false) (checks w D c s) → paid_in c ≤ most_top_up
 paid_most w D (top_up n) s p = inside 1 most_top_up n.0 p.0
